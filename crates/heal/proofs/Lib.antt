@@ -1,0 +1,4 @@
+pub mod Mail
+pub mod Asks
+pub mod Steps
+pub mod Rounds

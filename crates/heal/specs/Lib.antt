@@ -1,0 +1,6 @@
+pub mod Kernel
+pub mod House
+pub mod Promise
+pub mod Codec
+pub mod Invariant
+pub mod Turn
