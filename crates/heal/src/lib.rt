@@ -9,7 +9,8 @@ ghost use Rattle.std.specs.Results.{isOk};
 ghost use Rattle.std.specs.declared.result.Result.the-variants.{Ok};
 ghost use Rattle.heal.specs.Kernel.{Kern, Event, Round, Does, Between, AtStart, at', counted, withFell, hasRoom, cellsOf, mine, sent, taken, kept, begun, stopped, answered, showed, answers, begins, stops, shows, firstOf, keyAt};
 ghost use Rattle.heal.specs.House.{Explained};
-ghost use Rattle.heal.specs.Promise.{can};
+ghost use Rattle.heal.specs.Promise.{can, OneWriter, FamilyStands, DeadHoldNothing, ScreenInOrder};
+ghost use Rattle.heal.specs.Rows.{Hold, rows};
 ghost use Rattle.heal.specs.Invariant.{Inv, weak};
 ghost use Rattle.heal.specs.Turn.{Turned};
 
@@ -256,4 +257,33 @@ pub fn servers_are_small() -> bool
     std::mem::size_of::<Programs>() <= 65536
         && std::mem::size_of::<Files>() <= 65536
         && std::mem::size_of::<Screen>() <= 65536
+}
+
+// What is promised of the machine that never falls, each a theorem that a contract names. The screen's places are shown one
+// after the other, each once.
+pub fn screen_in_order() -> u8
+    ensures { λ _. ⌜ ScreenInOrder ⌝ }
+{
+    0
+}
+
+// Who writes a file is the only one who has it open; and the dead hold nothing.
+pub fn one_writer() -> u8
+    ensures { λ _. ⌜ OneWriter ⌝ ∗ ⌜ DeadHoldNothing ⌝ }
+{
+    0
+}
+
+// Every program has a living parent, and going up one comes to program 1.
+pub fn family_stands() -> u8
+    ensures { λ _. ⌜ FamilyStands ⌝ }
+{
+    0
+}
+
+// The rows of the table in specs/Rows: what program 1 is told on a machine that never falls.
+pub fn rows_hold() -> u8
+    ensures { λ _. ⌜ Hold rows ⌝ }
+{
+    0
 }
