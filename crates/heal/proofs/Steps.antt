@@ -1,130 +1,103 @@
--- What a server's asks come to, one after the other: over kernels that are variables, so that a `Does` can be taken apart.
+-- How asks compose. Kernels are explicit: they stand under projections.
 -- Assumes nothing.
-use mathlib.Core.Path.{_≡_, refl, sym, ap, subst, _∙_}
-use mathlib.Core.Bool.{Bool, true, false, cond, not}
-use mathlib.Core.List.{List, [], _∷_, _++_}
-use Prim.Native.Nat.{ℕ, zero, suc, _+_, _-_, _<_, _≤_}
+use mathlib.Core.Path.{_≡_, refl, sym, ap, subst, subst₂, _∙_}
+use mathlib.Core.Bool.{Bool, true, false, cond, not, false≢true}
+use mathlib.Core.List.{List, [], _∷_}
+use Prim.Native.Nat.{ℕ, _+_, _-_, _<_, _≤_}
 use native.Mathlib.Omega.{arith}
-use lib.Dec.{eqb, T}
-use lib.ListN.{length}
 use Rattle.std.specs.Results.{isOk, isErr}
-use Rattle.std.specs.declared.option.Option.{Option}
-use Rattle.std.specs.declared.option.Option.the-variants.{Some, None}
 use Rattle.std.specs.declared.result.Result.{Result}
 use Rattle.std.specs.declared.result.Result.the-variants.{Ok, Err}
-use Rattle.heal.specs.declared.Call.{Call}
 use Rattle.heal.specs.declared.Down.{Down}
-use Rattle.heal.specs.declared.Answer.the-variants.{No}
-use Rattle.heal.specs.declared.Msg.{Msg}
-use Rattle.heal.specs.declared.Msg.the-variants.{Asks, Tells}
-use Rattle.heal.specs.Kernel.{Event, Kern, set, tail, counted, taken, answered, answers, mine, firstOf, Does, stands, fallsBefore, fallsAfter}
-use Rattle.heal.specs.House.{Explained}
-use Rattle.heal.specs.Promise.{can}
-use Rattle.heal.specs.Invariant.{weak, stale, Inv}
-use Rattle.heal.specs.Turn.{After, Stepped, Turned}
-use Rattle.heal.proofs.Mail.{set-same, length-tail, load-top, stale-top}
-use Rattle.heal.proofs.Asks.{emptied, head-ok, answer-kept, answer-stale, answered-same, take-kept, does-after, does-stood, after-then}
+use lib.Dec.{eqb}
+use Rattle.std.proofs.shelf.Ways.{tells as tests}
+use Rattle.heal.specs.Kernel.{Event, Kern, cellsOf, kept}
+use Rattle.heal.specs.Journal.{viewed, own, Sound, Settled, withLeft, Atomic, holds, lostBefore, lostAfter}
+use Rattle.heal.specs.Invariant.{Inv, nothing}
+use Rattle.heal.specs.Turn.{Able, After, Did, Exact, Keeps, cells}
+use Rattle.heal.proofs.Atomics.{cells-many}
 
-pub first-some : (m : Msg) (xs : List Msg) → _≡_ {A = Result (Option Msg) Down} (Ok (Some m)) (Ok (firstOf xs)) → (ms : List Msg) × (xs ≡ m ∷ ms)
-unfolding firstOf
-first-some m [] e = let z : _≡_ {A = ℕ} 0 1 = cc in absurd (omega arith)
-first-some m (x ∷ xs) e = (xs, cc)
+pub in-cells : (s c : ℕ) → c < 512 → c + 17 < cellsOf s
+in-cells s c h = let m = cells-many s in omega arith
 
-pub first-none : (xs : List Msg) → _≡_ {A = Result (Option Msg) Down} (Ok None) (Ok (firstOf xs)) → xs ≡ []
-unfolding firstOf
-first-none [] e = refl
-first-none (x ∷ xs) e = cc
+-- of logical kernels
+record Went (n : ℕ) (k : Kern) (es : List Event) (ok : Bool) (l : Kern) (fs : List Event) : Type 0 where
+  seat : l .at ≡ k .at
+  fell : l .fell ≡ not ok
+  spent : k .left ≤ l .left + n
+  kept : Keeps k es l fs
 
-pub first-peek-none : (first : Option Msg) {k l : Kern} {es fs : List Event} → Does k k es es true l fs → _≡_ {A = Result (Option Msg) Down} (Ok first) (Ok (firstOf (k .box (k .at)))) → first ≡ None → k .box (k .at) ≡ []
-first-peek-none first {k = k} d e u = first-none (k .box (k .at)) (ap {B = Result (Option Msg) Down} (λ x. Ok x) (sym u) ∙ e)
+went : (n : ℕ) {k j l : Kern} {es fs gs : List Event} {ok : Bool} → k .fell ≡ false → j .at ≡ k .at → j .fell ≡ k .fell → Keeps k es j fs → Atomic n k j es fs ok l gs → Went n k es ok l gs
+went n z e f h (holds m c g) = record { seat = e; fell = f ∙ z; spent = c; kept = h }
+went n z e f h (lostBefore m c) = record { seat = refl; fell = refl; spent = c; kept = λ a i. i }
+went n z e f h (lostAfter m c g) = record { seat = e; fell = refl; spent = c; kept = h }
 
-pub peeked : {k m : Kern} {es gs : List Event} {b : Bool} → k .fell ≡ false → Does k k es es b m gs → After 1 k es b m gs
-peeked f d = does-after f refl refl refl (λ a i. i) d
+exactly : (n : ℕ) {k j l : Kern} {es fs gs : List Event} → Atomic n k j es fs true l gs → (l ≡ withLeft (l .left) j) × (gs ≡ fs)
+exactly n (holds m c g) = (refl, refl)
 
-pub told : (p n : ℕ) (c : Call) (ms : List Msg) {k m : Kern} {es gs : List Event} {b : Bool} → k .box (k .at) ≡ Asks p n c ∷ ms → k .fell ≡ false → Does k (answered p n k) es (answers p n (No 14) k es) b m gs → After 1 k es b m gs
-told p n c ms {k = k} {es = es} e f d = does-after f (answered-same (λ x. x .at) p n k refl) (answered-same (λ x. x .fell) p n k refl) (answered-same (λ x. x .left) p n k refl) (λ a i. answer-kept a k es p n c ms e i) d
+-- what is done at once
+pub atomic-after : (n : ℕ) (k j l : Kern) (es fs gs : List Event) (ok : Bool) → k .fell ≡ false → j .at ≡ k .at → j .fell ≡ k .fell → Keeps (viewed k) es j fs → Sound l → (ok ≡ true → Settled l) → Atomic n (viewed k) j es fs ok (viewed l) gs → After n k es ok l gs
+atomic-after n k j l es fs gs ok z e f h s t d = let w = went n z e f h d in record { seat = w .seat; fell = w .fell; spent = w .spent; sound = s; settled = t; kept = w .kept }
 
-pub took : {k m : Kern} {es gs : List Event} {b : Bool} → stale (k .pending) (k .box (k .at)) ≡ 1 → k .fell ≡ false → Does k (taken k) es es b m gs → After 1 k es b m gs
-took {k = k} {es = es} z f d = does-after f refl refl refl (λ a i. take-kept a k es z i) d
+pub atomic-did : {A : Type 0} (n : ℕ) (k j l : Kern) (es fs gs : List Event) (r : Result A Down) → k .fell ≡ false → j .at ≡ k .at → j .fell ≡ k .fell → Keeps (viewed k) es j fs → Sound l → (isOk r ≡ true → Settled l) → Atomic n (viewed k) j es fs (isOk r) (viewed l) gs → Did n k es r l gs (λ _. Exact j fs l gs)
+atomic-did n k j l es fs gs (Ok x) z e f h s t d = record { after = atomic-after n k j l es fs gs true z e f h s t d; gives = λ y u. (let v = exactly n d in record { is = v .0; same = v .1 }) }
+atomic-did n k j l es fs gs (Err x) z e f h s t d = record { after = atomic-after n k j l es fs gs false z e f h s t d; gives = λ y u. (let b : _≡_ {A = ℕ} 0 1 = cc in absurd (omega arith)) }
 
-pub after-up : {n m : ℕ} {k l : Kern} {es fs : List Event} {b : Bool} → n ≤ m → After n k es b l fs → After m k es b l fs
-after-up h x = record { seat = x .seat; fell = x .fell; spent = omega (arith, h, x .spent); kept = x .kept }
+-- more is known
+pub did-and : {A : Type 0} (n : ℕ) (k l : Kern) (es fs : List Event) (r : Result A Down) (P Q : A → Type 0) → ((x : A) → r ≡ Ok x → P x → Q x) → Did n k es r l fs P → Did n k es r l fs Q
+did-and n k l es fs r P Q h d = record { after = d .after; gives = λ x e. h x e (d .gives x e) }
 
--- it fell
-pub stepped-err : (n : ℕ) {k l : Kern} {es fs : List Event} (r : Result Bool Down) → n ≤ 3 → isErr r ≡ true → After n k es false l fs → Stepped k es r l fs
-stepped-err n (Ok v) h e x = let z : _≡_ {A = ℕ} 0 1 = cc in absurd (omega arith)
-stepped-err n (Err d) h e x = record { after = after-up h x; fewer = λ u. (let z : _≡_ {A = ℕ} 0 1 = cc in absurd (omega arith)); empty = λ u. (let z : _≡_ {A = ℕ} 0 1 = cc in absurd (omega arith)) }
+pub after-then : (n m : ℕ) (k l j : Kern) (es fs gs : List Event) (b : Bool) → After n k es true l fs → After m l fs b j gs → After (n + m) k es b j gs
+after-then n m k l j es fs gs b x y = record { seat = y .seat ∙ x .seat; fell = y .fell; spent = omega (arith, x .spent, y .spent); sound = y .sound; settled = y .settled; kept = λ a i. y .kept a (x .kept a i) }
 
--- the box was empty
-pub stepped-none : {k l : Kern} {es fs : List Event} → k .fell ≡ false → k .box (k .at) ≡ [] → Does k k es es true l fs → Stepped k es (Ok false) l fs
-stepped-none f e d =
-    record { after = after-up (omega arith) (peeked f d); fewer = λ u. (let z : _≡_ {A = ℕ} 0 1 = cc in absurd (omega arith)); empty = λ _. subst (λ x. x .box (x .at) ≡ []) (sym (does-stood d .0)) e }
+pub after-none : (k : Kern) (es : List Event) (n : ℕ) → Able n k es → After 0 k es true k es
+after-none k es n a = record { seat = refl; fell = a .stands; spent = omega arith; sound = a .sound; settled = λ _. a .settled; kept = λ a i. i }
 
--- the first was taken
-pub stepped-took : (n : ℕ) {k l m : Kern} {es fs gs : List Event} → n ≤ 2 → After n k es true l fs → l .box (l .at) ≡ k .box (k .at) → stale (l .pending) (l .box (l .at)) ≡ 1 → Does l (taken l) fs fs true m gs → Stepped k es (Ok true) m gs
-stepped-took n {l = l} h x s z d =
-    record {
-      after = after-up (omega arith) (after-then n 1 x (took z (x .fell) d));
-      fewer = λ _. (let t : _ = subst (λ y. y .box (y .at) ≡ tail (l .box (l .at))) (sym (does-stood d .0)) (set-same (l .at) (tail (l .box (l .at))) (l .box)) in omega (arith, ap length t, ap length s, length-tail (l .pending) (l .box (l .at)) z));
-      empty = λ u. (let z : _≡_ {A = ℕ} 0 1 = cc in absurd (omega arith));
-    }
+pub after-up : (n m : ℕ) (k l : Kern) (es fs : List Event) (b : Bool) → n ≤ m → After n k es b l fs → After m k es b l fs
+after-up n m k l es fs b h x = record { seat = x .seat; fell = x .fell; spent = omega (arith, x .spent); sound = x .sound; settled = x .settled; kept = x .kept }
 
--- what was seen by peek, and it is a program's call, or what a server tells
-pub record Calling (p n : ℕ) (c : Call) (k l : Kern) (es fs : List Event) : Type 0 where
-  pub some : 3 ≤ k .left
-  pub stood : k .fell ≡ false
-  pub inv : Inv weak k es
-  pub peek : Does k k es es true l fs
-  pub rest : List Msg
-  pub head : k .box (k .at) ≡ Asks p n c ∷ rest
+-- it may go on
+pub able : (n m : ℕ) (k l : Kern) (es fs : List Event) → Able m k es → After n k es true l fs → (t : ℕ) → t + n ≤ m → Able t l fs
+able n m k l es fs a x t h = record { some = omega (arith, a .some, x .spent); stands = x .fell; sound = x .sound; settled = x .settled refl; inv = x .kept nothing (a .inv) }
 
-pub calling : (p n : ℕ) (c : Call) (first : Option Msg) (m : Msg) {k l : Kern} {es fs : List Event} → Does k k es es true l fs → 3 ≤ k .left → k .fell ≡ false → Inv weak k es → _≡_ {A = Result (Option Msg) Down} (Ok first) (Ok (firstOf (k .box (k .at)))) → first ≡ Some m → m ≡ Asks p n c → Calling p n c k l es fs
-calling p n c first m {k = k} d some f i e u v =
-    let h = first-some (Asks p n c) (k .box (k .at)) (ap {B = Result (Option Msg) Down} (λ x. Ok x) (sym (u ∙ ap (λ x. Some x) v)) ∙ e) in
-    record { some = some; stood = f; inv = i; peek = d; rest = h .0; head = h .1 }
+pub able-less : (n m : ℕ) (k : Kern) (es : List Event) → Able m k es → n ≤ m → Able n k es
+able-less n m k es a h = record { some = omega (arith, a .some); stands = a .stands; sound = a .sound; settled = a .settled; inv = a .inv }
 
-pub tells-stale : (f v a b c : ℕ) (first : Option Msg) (m : Msg) {k l : Kern} {es fs : List Event} → Does k k es es true l fs → _≡_ {A = Result (Option Msg) Down} (Ok first) (Ok (firstOf (k .box (k .at)))) → first ≡ Some m → m ≡ Tells f v a b c → stale (l .pending) (l .box (l .at)) ≡ 1
-unfolding stale
-tells-stale f v a b c first m {k = k} d e u w =
-    let h = first-some (Tells f v a b c) (k .box (k .at)) (ap {B = Result (Option Msg) Down} (λ x. Ok x) (sym (u ∙ ap (λ x. Some x) w)) ∙ e) in
-    subst (λ x. stale (x .pending) (x .box (x .at)) ≡ 1) (sym (does-stood d .0)) (ap (stale (k .pending)) (h .1))
+-- it fell, and that is handed on
+pub did-lost : {A : Type 0} (n m : ℕ) (k l : Kern) (es fs : List Event) (r : Result A Down) (P : A → Type 0) → n ≤ m → isErr r ≡ true → After n k es false l fs → Did m k es r l fs P
+did-lost n m k l es fs (Ok x) P h e d = let b : _≡_ {A = ℕ} 0 1 = cc in absurd (omega arith)
+did-lost n m k l es fs (Err x) P h e d = record { after = after-up n m k l es fs false h d; gives = λ y u. (let b : _≡_ {A = ℕ} 0 1 = cc in absurd (omega arith)) }
 
--- what the answer asks
-pub asks-needs : {p n : ℕ} {c : Call} {k l : Kern} {es fs : List Event} → Calling p n c k l es fs → (0 < l .left) × ((p < 64) × (T (mine p n l) × Explained can (answers p n (No 14) l fs)))
-asks-needs {p = p} {n = n} {c = c} {k = k} {es = es} x = go (x .peek)
-  where
-    go : {l : Kern} {fs : List Event} → Does k k es es true l fs → (0 < l .left) × ((p < 64) × (T (mine p n l) × Explained can (answers p n (No 14) l fs)))
-    go (stands h) =
-        let o = head-ok weak k es p n c (x .rest) (x .head) (x .inv) in
-        let j = answer-kept weak k es p n c (x .rest) (x .head) (x .inv) in
-        (omega (arith, x .some), (o .0, (o .2, (j .0, j .1))))
+pub did-ok : {A : Type 0} (n m : ℕ) (k l : Kern) (es fs : List Event) (x : A) (P : A → Type 0) → n ≤ m → After n k es true l fs → P x → Did m k es (Ok x) l fs P
+did-ok n m k l es fs x P h d p = record { after = after-up n m k l es fs true h d; gives = λ y u. (let e : x ≡ y = cc in subst P e p) }
 
--- and what stands after it
-module _ {p n : ℕ} {c : Call} {k l : Kern} {es fs : List Event} (x : Calling p n c k l es fs) where
-  asks-box : l .box (l .at) ≡ Asks p n c ∷ x .rest
-  asks-box = subst (λ y. y .box (y .at) ≡ Asks p n c ∷ x .rest) (sym (does-stood (x .peek) .0)) (x .head)
+-- the last call's result is handed on
+pub did-then : {A : Type 0} (n m t : ℕ) (k l j : Kern) (es fs gs : List Event) (r : Result A Down) (P Q : A → Type 0) → n + m ≤ t → After n k es true l fs → Did m l fs r j gs Q → ((x : A) → r ≡ Ok x → Q x → P x) → Did t k es r j gs P
+did-then n m t k l j es fs gs r P Q h x d f = record { after = after-up (n + m) t k j es gs (isOk r) h (after-then n m k l j es fs gs (isOk r) x (d .after)); gives = λ y e. f y e (d .gives y e) }
 
-  pub asks-told : {m : Kern} {gs : List Event} {b : Bool} → Does l (answered p n l) fs (answers p n (No 14) l fs) b m gs → After 2 k es b m gs
-  asks-told d = after-then 1 1 (peeked (x .stood) (x .peek)) (told p n c (x .rest) asks-box (peeked (x .stood) (x .peek) .fell) d)
+-- what is known after an ask that was done
+pub same-cell : (k l : Kern) (es fs : List Event) → Exact (viewed k) es l fs → (j : ℕ) → cells l j ≡ cells k j
+same-cell k l es fs e j = ap (λ κ. κ .cell (κ .at) j) (e .is)
 
-  pub asks-stale : {m : Kern} {gs : List Event} → Does l (answered p n l) fs (answers p n (No 14) l fs) true m gs → stale (m .pending) (m .box (m .at)) ≡ 1
-  asks-stale d = subst (λ y. stale (y .pending) (y .box (y .at)) ≡ 1) (sym (does-stood d .0)) (answer-stale weak l fs p n c (x .rest) asks-box (peeked (x .stood) (x .peek) .kept weak (x .inv)))
+pub same-box : (k l : Kern) (es fs : List Event) → Exact (viewed k) es l fs → l .box ≡ k .box
+same-box k l es fs e = ap (λ κ. κ .box) (e .is)
 
-  pub asks-same : {m : Kern} {gs : List Event} → Does l (answered p n l) fs (answers p n (No 14) l fs) true m gs → m .box (m .at) ≡ k .box (k .at)
-  asks-same d = subst (λ y. y .box (y .at) ≡ k .box (k .at)) (sym (does-stood d .0)) (answered-same (λ y. y .box (y .at)) p n l refl ∙ (asks-box ∙ sym (x .head)))
+pub put-cell : (c x : ℕ) (k l : Kern) (es fs : List Event) → Exact (kept c x (viewed k)) es l fs → (j : ℕ) → cells l j ≡ cond (eqb j c) x (cells k j)
+put-cell c x k l es fs e j = ap (λ κ. κ .cell (κ .at) j) (e .is) ∙ grind (arith, tests)
 
--- the loop over the box
-pub loop-begins : (k : Kern) (es : List Event) → k .fell ≡ false → Inv weak k es → After 0 k es true k es × (length (k .box (k .at)) + 0 ≤ 65)
-loop-begins k es f i =
-    (record { seat = refl; fell = f; spent = omega arith; kept = λ a j. j }, omega (arith, i .2 .few (k .at), load-top 64 (k .at) (k .pending), stale-top (k .pending) (k .box (k .at))))
+pub put-box : (c x : ℕ) (k l : Kern) (es fs : List Event) → Exact (kept c x (viewed k)) es l fs → l .box ≡ k .box
+put-box c x k l es fs e = ap (λ κ. κ .box) (e .is)
 
-pub loop-ends : (n : ℕ) (b : Bool) {k l m : Kern} {es fs gs : List Event} → After n k es true l fs → Stepped l fs (Ok b) m gs → b ≡ false → (m .at ≡ k .at) × Turned k es true m gs
-loop-ends n b {k = k} {m = m} {gs = gs} x y e =
-    let s : m .at ≡ k .at = y .after .seat ∙ x .seat in (
-      s,
-      record {
-        fell = y .after .fell;
-        kept = λ a i. y .after .kept a (x .kept a i);
-        done = λ _ a i. emptied a m gs (k .at) (ap (m .box) (sym s) ∙ y .empty (ap {B = Result Bool Down} (λ z. Ok z) e)) (y .after .kept a (x .kept a i));
-      },
-    )
+-- a read, and then a put
+pub read-put : (c x : ℕ) (k l m : Kern) (es fs gs : List Event) → Exact (viewed k) es l fs → Exact (kept c x (viewed l)) fs m gs → Exact (kept c x (viewed k)) es m gs
+read-put c x k l m es fs gs e f = record { is = f .is ∙ ap (λ κ. withLeft (m .left) (kept c x κ)) (e .is); same = f .same ∙ e .same }
+
+pub read-read : (k l m : Kern) (es fs gs : List Event) → Exact (viewed k) es l fs → Exact (viewed l) fs m gs → Exact (viewed k) es m gs
+read-read k l m es fs gs e f = record { is = f .is ∙ ap (λ κ. withLeft (m .left) κ) (e .is); same = f .same ∙ e .same }
+
+-- the invariant, at another count of asks
+pub inv-exact : (a : ℕ → ℕ) (j l : Kern) (es fs : List Event) → Exact j es l fs → Inv a j es → Inv a (viewed l) fs
+inv-exact a j l es fs e i = subst₂ (λ κ gs. Inv a κ gs) (sym (e .is)) (sym (e .same)) i
+
+pub same-cells : (k l : Kern) (es fs : List Event) → Exact (viewed k) es l fs → cells l ≡ cells k
+same-cells k l es fs e = ap (λ κ. κ .cell (κ .at)) (e .is)

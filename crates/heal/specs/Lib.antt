@@ -3,5 +3,10 @@ pub mod House
 pub mod Promise
 pub mod Rows
 pub mod Codec
+pub mod Ready
+pub mod Transaction
+pub mod Journal
+pub mod Files
 pub mod Invariant
+pub mod Deciding
 pub mod Turn

@@ -11,9 +11,13 @@ use Rattle.heal.specs.declared.Call.{Call}
 use Rattle.heal.specs.Kernel.{Event, Asked, Told, Began, Stopped, Shown, Typed, Round}
 use Rattle.heal.specs.House.{Proc, Nobody, Living, Dead, Hand, Empty, On, State, Run, core, parentOf, nobody, living, dead}
 
--- none is built yet: it grows with the landings to `core` and then to `all`, and never loses a call
+-- the calls that are built: it grows with the landings to `all`, and never loses a call
 abbrev pub can : Call → Bool
-can c = false
+can = core
+
+-- what the first landings build is never taken back
+abbrev pub CoreBuilt : Type 0
+CoreBuilt = (c : Call) → T (core c) → T (can c)
 
 -- 1. Who writes a file is the only one who has it open.
 abbrev pub OneWriter : Type 0

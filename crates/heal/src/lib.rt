@@ -9,13 +9,24 @@ ghost use Rattle.std.specs.Results.{isOk};
 ghost use Rattle.std.specs.declared.result.Result.the-variants.{Ok};
 ghost use Rattle.heal.specs.Kernel.{Kern, Event, Round, Does, Between, AtStart, at', counted, withFell, hasRoom, cellsOf, mine, sent, taken, kept, begun, stopped, answered, showed, answers, begins, stops, shows, firstOf, keyAt};
 ghost use Rattle.heal.specs.House.{Explained};
-ghost use Rattle.heal.specs.Promise.{can, OneWriter, FamilyStands, DeadHoldNothing, ScreenInOrder};
+ghost use Rattle.heal.specs.Promise.{can, OneWriter, FamilyStands, DeadHoldNothing, ScreenInOrder, CoreBuilt};
 ghost use Rattle.heal.specs.Rows.{Hold, rows};
-ghost use Rattle.heal.specs.Invariant.{Inv, weak};
-ghost use Rattle.heal.specs.Turn.{Turned};
 
+mod asks;
 pub mod codec;
-mod refusal;
+mod decision;
+mod decisions;
+mod files;
+mod journal;
+mod programs;
+mod ready;
+mod screen;
+mod slots;
+mod transaction;
+
+pub use files::Files;
+pub use programs::Programs;
+pub use screen::Screen;
 
 // Files 0 to 63, of up to 256 words; handles 0 to 7; programs 1 to 63.
 #[derive(Clone, Copy)]
@@ -134,75 +145,6 @@ pub trait World: Desk {
         ensures { λ r. ⌜ kern (now (self .exit)) ≡ kern (now (self .entry)) ⌝ ∗ ⌜ (T r → seen (now (self .exit)) ≡ Round ∷ seen (now (self .entry))) ⌝ };
 }
 
-// The server of programs. What it knows while it stands: whether it has had a turn. No call is built, so each is refused.
-#[derive(Drop)]
-pub struct Programs {
-    pub up: bool,
-}
-
-impl Programs {
-    pub fn new() -> Programs {
-        Programs { up: false }
-    }
-
-    pub fn turn<K: Desk>(&mut self, k: &mut K) -> Result<(), Down>
-        requires some { ⌜ 4096 ≤ kern (now k) .left ⌝ }
-        requires stands { ⌜ kern (now k) .fell ≡ false ⌝ }
-        requires inv { ⌜ Inv weak (kern (now k)) (seen (now k)) ⌝ }
-        ensures seat { λ _. ⌜ kern (now (k .exit)) .at ≡ kern (now (k .entry)) .at ⌝ }
-        ensures turned { λ r. ⌜ Turned (kern (now (k .entry))) (seen (now (k .entry))) (isOk r) (kern (now (k .exit))) (seen (now (k .exit))) ⌝ }
-    {
-        self.up = true;
-        refusal::refuse_all(k)
-    }
-}
-
-// The server of files.
-#[derive(Drop)]
-pub struct Files {
-    pub up: bool,
-}
-
-impl Files {
-    pub fn new() -> Files {
-        Files { up: false }
-    }
-
-    pub fn turn<K: Desk>(&mut self, k: &mut K) -> Result<(), Down>
-        requires some { ⌜ 4096 ≤ kern (now k) .left ⌝ }
-        requires stands { ⌜ kern (now k) .fell ≡ false ⌝ }
-        requires inv { ⌜ Inv weak (kern (now k)) (seen (now k)) ⌝ }
-        ensures seat { λ _. ⌜ kern (now (k .exit)) .at ≡ kern (now (k .entry)) .at ⌝ }
-        ensures turned { λ r. ⌜ Turned (kern (now (k .entry))) (seen (now (k .entry))) (isOk r) (kern (now (k .exit))) (seen (now (k .exit))) ⌝ }
-    {
-        self.up = true;
-        refusal::refuse_all(k)
-    }
-}
-
-// The server of the desk, with screen and keys.
-#[derive(Drop)]
-pub struct Screen {
-    pub up: bool,
-}
-
-impl Screen {
-    pub fn new() -> Screen {
-        Screen { up: false }
-    }
-
-    pub fn turn<K: Desk>(&mut self, k: &mut K) -> Result<(), Down>
-        requires some { ⌜ 4096 ≤ kern (now k) .left ⌝ }
-        requires stands { ⌜ kern (now k) .fell ≡ false ⌝ }
-        requires inv { ⌜ Inv weak (kern (now k)) (seen (now k)) ⌝ }
-        ensures seat { λ _. ⌜ kern (now (k .exit)) .at ≡ kern (now (k .entry)) .at ⌝ }
-        ensures turned { λ r. ⌜ Turned (kern (now (k .entry))) (seen (now (k .entry))) (isOk r) (kern (now (k .exit))) (seen (now (k .exit))) ⌝ }
-    {
-        self.up = true;
-        refusal::refuse_all(k)
-    }
-}
-
 // The main theorem: that this is proved. Whatever programs ask, whenever servers fall, and however often, all that is
 // seen can be explained by one machine that never fell.
 pub fn days<W: Desk + World>(w: &mut W, many: u64)
@@ -257,6 +199,13 @@ pub fn servers_are_small() -> bool
     std::mem::size_of::<Programs>() <= 65536
         && std::mem::size_of::<Files>() <= 65536
         && std::mem::size_of::<Screen>() <= 65536
+}
+
+// What is built is never taken back.
+pub fn core_built() -> u8
+    ensures { λ _. ⌜ CoreBuilt ⌝ }
+{
+    0
 }
 
 // What is promised of the machine that never falls, each a theorem that a contract names. The screen's places are shown one
