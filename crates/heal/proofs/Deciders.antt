@@ -425,6 +425,15 @@ away-two s a b x y z j e = grind (arith, tests)
 away-three : (s a b c x y w z j : ℕ) → s ≡ 1 → cond (eqb 2 s && eqb j a) x (cond (eqb 2 s && eqb j b) y (cond (eqb 2 s && eqb j c) w z)) ≡ z
 away-three s a b c x y w z j e = grind (arith, tests)
 
+third-same : (a b c v y z : ℕ) (d : ℕ → ℕ) (j : ℕ) → (v ≡ 0 → ⊥) → d a ≡ v → (a ≡ b → ⊥) → (a ≡ c → ⊥) → set b y (set c z d) j ≡ set a (cond (eqb v 0) 1 v) (set b y (set c z d)) j
+third-same a b c v y z d j n e f g = ⊎-elim (λ (q : j ≡ a). subst (λ i. set b y (set c z d) i ≡ set a (cond (eqb v 0) 1 v) (set b y (set c z d)) i) (sym q) (at-a (eqb a b) (eqb a c) (d a) v y z a b c n e f g)) (λ q. off-a a j _ _ q) (cases-eq j a)
+  where
+    at-a : (p q : Bool) (x v y z a b c : ℕ) → (v ≡ 0 → ⊥) → x ≡ v → (a ≡ b → ⊥) → (a ≡ c → ⊥) → cond (eqb a b) y (cond (eqb a c) z x) ≡ cond (eqb a a) (cond (eqb v 0) 1 v) (cond (eqb a b) y (cond (eqb a c) z x))
+    at-a p q x v y z a b c n e f g = grind (arith, tests)
+
+    off-a : (a j x w : ℕ) → (j ≡ a → ⊥) → w ≡ cond (eqb j a) x w
+    off-a a j x w q = grind (arith, tests)
+
 -- the files
 module _ (p : ℕ) (k : Kern) (es : List Event) (one : k .at ≡ 1) where
   not-two : k .at ≡ 2 → ⊥
@@ -498,6 +507,21 @@ module _ (p : ℕ) (k : Kern) (es : List Event) (one : k .at ≡ 1) where
       where
         three-away : (j : ℕ) → kept (sizeAt n) (cond (eqb v 0) 1 v) (kept (usersAt n) (cond w 1 (cond (eqb u 0) 2 (u + 1))) (kept (handAt p e) (1 + 2 * n + cond w 1 0) k)) .cell 2 j ≡ k .cell 2 j
         three-away j = away-three (k .at) (sizeAt n) (usersAt n) (handAt p e) (cond (eqb v 0) 1 v) (cond w 1 (cond (eqb u 0) 2 (u + 1))) (1 + 2 * n + cond w 1 0) (k .cell 2 j) j one
+
+    -- where the file is there, its size stays
+    pub open-have : (n : ℕ) (w : Bool) (e u v : ℕ) → Standing p (Open n w) k → n < 64 → D (usersAt n) ≡ u → D (sizeAt n) ≡ v → (v ≡ 0 → ⊥) → ((w ≡ true) × (u ≡ 0)) ⊎ ((w ≡ false) × (u ≡ 1 → ⊥)) → e < 8 → D (handAt p e) ≡ 0 → ((i : ℕ) → i < e → D (handAt p i) ≡ 0 → ⊥) →
+        Decided p (Open n w) (Handle e) ((handAt p e, 1 + 2 * n + cond w 1 0) ∷ (usersAt n, cond w 1 (cond (eqb u 0) 2 (u + 1))) ∷ []) k es
+    unfolding core waitsIn fits ends keptAll Within
+    open-have n w e u v z h a b c d le g i =
+        file-act (Open n w) (Handle e) _ z tt (λ x q. (let y : _≡_ {A = ℕ} 0 1 = cc in omega arith)) (λ s. tt) tt (λ s. refl) (omega arith)
+        (in-files (k .at) (handAt p e) one (omega arith), (in-files (k .at) (usersAt n) one (omega arith), tt))
+        (far-cell (handAt p e) (omega arith), (far-cell (usersAt n) (omega arith), tt))
+        (λ j. away-two (k .at) (usersAt n) (handAt p e) (cond w 1 (cond (eqb u 0) 2 (u + 1))) (1 + 2 * n + cond w 1 0) (k .cell 2 j) j one)
+        (λ s l f. (let y = open-done 0 p s D small l f n w e u v h a b (inl c) d le g i in
+        (openedBy p e n w s, y .0, refl, refl, refl, refl, refl, refl, refl, files-same (openCells p e n w u v D) _ _ _ (λ j _. set-two (handAt p e) (1 + 2 * n + cond w 1 0) (usersAt n) (cond w 1 (cond (eqb u 0) 2 (u + 1))) j ∙ size-same j) (y .1))))
+      where
+        size-same : (j : ℕ) → set (usersAt n) (cond w 1 (cond (eqb u 0) 2 (u + 1))) (set (handAt p e) (1 + 2 * n + cond w 1 0) D) j ≡ openCells p e n w u v D j
+        size-same j = third-same (sizeAt n) (usersAt n) (handAt p e) v (cond w 1 (cond (eqb u 0) 2 (u + 1))) (1 + 2 * n + cond w 1 0) D j c b (λ q. omega arith) (λ q. omega arith)
 
     pub close-4 : (h : ℕ) → Standing p (Close h) k → (8 ≤ h) ⊎ (D (handAt p h) ≡ 0) → Decided p (Close h) (No 4) [] k es
     unfolding core waitsIn

@@ -17,12 +17,13 @@ use Rattle.heal.specs.declared.decision.Decision.the-variants.{Finish, Pass}
 use Rattle.heal.specs.Kernel.{Event, Kern, serverOf, kept, withCell, cellsOf}
 use Rattle.heal.specs.House.{Now, Under, Over, State, Run, waitsIn}
 use Rattle.heal.specs.Promise.{can}
+use Rattle.heal.specs.Codec.{answerOf}
 use Rattle.heal.specs.Files.{FilesAre}
 use Rattle.heal.specs.Journal.{viewed, keptAll, Within, withLeft}
 use Rattle.heal.specs.Transaction.{pairsOf}
 use Rattle.heal.specs.Invariant.{Inv, Who, DeskIs, Shut, Moves, Before, Common, last, done, owed, ready, sweep, shownIn, ahead, plus}
 use Rattle.heal.specs.Ready.{FirstFrom}
-use Rattle.heal.specs.Deciding.{Standing, Apart, Decided, Chosen, Finishes}
+use Rattle.heal.specs.Deciding.{Standing, Apart, Decided, Chosen, Finishes, Noted}
 use Rattle.heal.specs.Turn.{After, Exact, Keeps, cells, Gives, Finished, Calm, Stepped}
 use Rattle.heal.proofs.FileCells.{files-same}
 use Rattle.heal.proofs.Kept.{kept-same, desk-other, loose}
@@ -220,3 +221,38 @@ within-two n ps rs a b e w x y = subst (Within n) (sym e) (within-more n ps a b 
 
 pub pairs-few : (ps qs : List (ℕ × ℕ)) (a : ℕ × ℕ) → qs ≡ ps ++ (a ∷ []) → length ps ≤ 3 → length qs < 8
 pairs-few ps qs a e h = let l = ap length e ∙ length-append ps (a ∷ []) in omega arith
+
+-- the words of an answer, one after the other
+pub record Words (k : Kern) (es : List Event) (l : Kern) (fs : List Event) : Type 0 where
+  pub seat : l .at ≡ k .at
+  pub boxes : l .box ≡ k .box
+  pub stands : (p : ℕ) (c : Call) → Standing p c k → Standing p c l
+  pub stays : (p : ℕ) (c : Call) (b : Answer) (ps : List (ℕ × ℕ)) → Decided p c b ps k es → Decided p c b ps l fs
+
+pub one-word : (j x : ℕ) (k l : Kern) (es fs : List Event) → (33 ≤ j) × (j < 36) → Exact (kept j x (viewed k)) es l fs → Words (viewed k) es (viewed l) fs
+one-word j x k l es fs h e =
+    record {
+      seat = ap (λ κ. κ .at) (e .is);
+      boxes = ap (λ κ. κ .box) (e .is);
+      stands = λ p c z. standing-exact p c (kept j x (viewed k)) l es fs e (standing-word p c (viewed k) es j x h z);
+      stays = λ p c b ps q. decided-exact p c b ps (kept j x (viewed k)) l es fs e (decided-word p c (viewed k) es j x h b ps q);
+    }
+
+pub words-then : (k l m : Kern) (es fs gs : List Event) → Words k es l fs → Words l fs m gs → Words k es m gs
+words-then k l m es fs gs a b = record { seat = b .seat ∙ a .seat; boxes = b .boxes ∙ a .boxes; stands = λ p c z. b .stands p c (a .stands p c z); stays = λ p c x ps q. b .stays p c x ps (a .stays p c x ps q) }
+
+pub noted : (a : Answer) (k l : Kern) (es fs : List Event) → Words k es l fs → owed (l .cell (l .at)) ≡ a → Noted a k es l fs
+noted a k l es fs w o = record { owes = o; boxes = w .boxes; stands = w .stands; stays = w .stays }
+
+-- which words an answer's kind has
+pub kind-done : (k a x y z : ℕ) (r : Answer) → answerOf k a x ≡ r → k ≡ 0 → answerOf k y z ≡ r
+unfolding answerOf
+kind-done k a x y z r e f = grind (arith, tests)
+
+pub kind-word : (k a x y : ℕ) (r : Answer) → answerOf k a x ≡ r → k ≡ 5 → answerOf k y x ≡ r
+unfolding answerOf
+kind-word k a x y r e f = grind (arith, tests)
+
+pub kind-one : (k a x z : ℕ) (r : Answer) → answerOf k a x ≡ r → (k ≡ 3 → ⊥) → (k ≡ 5 → ⊥) → answerOf k a z ≡ r
+unfolding answerOf
+kind-one k a x z r e f g = grind (arith, tests)

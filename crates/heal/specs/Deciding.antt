@@ -20,7 +20,7 @@ use Rattle.std.specs.declared.option.Option.{Option}
 use Rattle.std.specs.declared.option.Option.the-variants.{Some, None}
 use Rattle.heal.specs.Journal.{keptAll, Within}
 use Rattle.heal.specs.Transaction.{pairsOf}
-use Rattle.heal.specs.Invariant.{Inv, Who, DeskIs, Moves, Before, Common, last, done, sweep, ownerIn, shownIn}
+use Rattle.heal.specs.Invariant.{Inv, Who, DeskIs, Moves, Before, Common, last, done, owed, sweep, ownerIn, shownIn}
 
 -- p's call c is in its slot, the sweep is there, and the box is empty
 pub record Standing (p : ℕ) (c : Call) (k : Kern) : Type 0 where
@@ -72,3 +72,10 @@ Holds p h d (Some x) = (h < 8) × (d (handAt p h) ≡ 0 → ⊥) × (nameIn (d (
 abbrev pub Lowest : ℕ → (ℕ → ℕ) → Option ℕ → Type 0
 Lowest p d None = (i : ℕ) → i < 8 → d (handAt p i) ≡ 0 → ⊥
 Lowest p d (Some e) = (e < 8) × (d (handAt p e) ≡ 0) × ((i : ℕ) → i < e → d (handAt p i) ≡ 0 → ⊥)
+
+-- the words of the answer a are written, and nothing else is touched that a decision rests on
+pub record Noted (a : Answer) (k : Kern) (es : List Event) (l : Kern) (fs : List Event) : Type 0 where
+  pub owes : owed (l .cell (l .at)) ≡ a
+  pub boxes : l .box ≡ k .box
+  pub stands : (p : ℕ) (c : Call) → Standing p c k → Standing p c l
+  pub stays : (p : ℕ) (c : Call) (b : Answer) (ps : List (ℕ × ℕ)) → Decided p c b ps k es → Decided p c b ps l fs

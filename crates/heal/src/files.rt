@@ -139,15 +139,27 @@ pub fn open<K: Desk>(k: &mut K, p: u32, n: u32, w: bool) -> Result<Decision, Dow
     }
     match lowest_empty(k, p)? {
         None => Ok(decisions::refuse(13)),
-        Some(e) => Ok(decisions::write_three(
-            Answer::Handle(e),
-            HAND + 8 * p + e,
-            hand_word(n, w),
-            USERS + n,
-            users_opened(w, users),
-            SIZE + n,
-            size_opened(size),
-        )),
+        Some(e) => {
+            // a file that's missing is there from then on, empty
+            if size == 0 {
+                return Ok(decisions::write_three(
+                    Answer::Handle(e),
+                    HAND + 8 * p + e,
+                    hand_word(n, w),
+                    USERS + n,
+                    users_opened(w, users),
+                    SIZE + n,
+                    1,
+                ));
+            }
+            Ok(decisions::write_two(
+                Answer::Handle(e),
+                HAND + 8 * p + e,
+                hand_word(n, w),
+                USERS + n,
+                users_opened(w, users),
+            ))
+        }
     }
 }
 
@@ -176,13 +188,6 @@ fn hand_word(n: u32, w: bool) -> u64
     } else {
         1 + 2 * n as u64
     }
-}
-
-// A file that's missing is there, empty.
-fn size_opened(size: u64) -> u64
-    ensures { λ r. ⌜ r ≡ cond (eqb size 0) 1 size ⌝ }
-{
-    if size == 0 { 1 } else { size }
 }
 
 pub fn close<K: Desk>(k: &mut K, p: u32, h: u32) -> Result<Decision, Down>

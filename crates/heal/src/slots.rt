@@ -10,7 +10,7 @@ ghost use Rattle.heal.specs.Journal.{viewed, Sound};
 ghost use Rattle.std.specs.Results.{isOk};
 ghost use Rattle.heal.specs.Ready.{has, FirstFrom};
 ghost use Rattle.heal.specs.Transaction.{pairsOf};
-ghost use Rattle.heal.specs.Deciding.{Standing, Decided, Chosen};
+ghost use Rattle.heal.specs.Deciding.{Standing, Decided, Chosen, Noted};
 ghost use Rattle.heal.specs.Invariant.{last, done, sweep, ready, owed, Inv, nothing};
 ghost use Rattle.heal.specs.Turn.{Able, Did, Exact, Heads, cells, Calm, Gives, Storing, Stored, Fewer, Drained, OneLess, Finished, Stepped, StepOr, Begun, Worked, Turned, InSlot};
 use crate::Answer;
@@ -28,7 +28,14 @@ use crate::ready::ReadySet;
 use crate::screen;
 use crate::transaction::Transaction;
 
+// Cells that every server has: where the sweep is; the answer that is owed; who has a slot to be looked at.
 const SWEEP: u32 = 32;
+
+const OWED_KIND: u32 = 33;
+
+const OWED_A: u32 = 34;
+
+const OWED_X: u32 = 35;
 
 const READY: u32 = 36;
 
@@ -108,16 +115,34 @@ fn owed_answer<K: Desk>(k: &mut K) -> Result<Answer, Down>
     Ok(codec::decode_answer(codec::AnswerWords { kind, a, x }))
 }
 
+// the words of the answer that will be owed; only those that its kind has
+fn write_owed<K: Desk>(k: &mut K, a: Answer) -> Result<(), Down>
+    requires able { ⌜ Able 3 (kern (now k)) (seen (now k)) ⌝ }
+    requires calm { ⌜ sweep (cells (kern (now k))) < 64 ⌝ }
+    ensures { λ r. ⌜ Did 3 (kern (now (k .entry))) (seen (now (k .entry))) r (kern (now (k .exit))) (seen (now (k .exit))) (λ _. Noted a (viewed (kern (now (k .entry)))) (seen (now (k .entry))) (viewed (kern (now (k .exit)))) (seen (now (k .exit)))) ⌝ }
+{
+    let w = codec::encode_answer(a);
+    asks::write(k, OWED_KIND, w.kind)?;
+    if w.kind == 0 {
+        return Ok(());
+    }
+    if w.kind == 5 {
+        return asks::write(k, OWED_X, w.x);
+    }
+    asks::write(k, OWED_A, w.a)?;
+    if w.kind == 3 {
+        return asks::write(k, OWED_X, w.x);
+    }
+    Ok(())
+}
+
 // the call at the sweep has its moment: the answer's words first, which nobody reads yet, and then all at once
 fn finish<K: Desk>(k: &mut K, p: u32, a: Answer, t: Transaction) -> Result<(), Down>
     requires able { ⌜ Able 54 (kern (now k)) (seen (now k)) ⌝ }
     requires decided { ⌜ ((c : Call) × Standing p c (viewed (kern (now k))) × Decided p c a (pairsOf t) (viewed (kern (now k))) (seen (now k))) ⌝ }
     ensures { λ r. ⌜ Did 54 (kern (now (k .entry))) (seen (now (k .entry))) r (kern (now (k .exit))) (seen (now (k .exit))) (λ _. Finished p (kern (now (k .entry))) (seen (now (k .entry))) (kern (now (k .exit))) (seen (now (k .exit)))) ⌝ }
 {
-    let w = codec::encode_answer(a);
-    asks::write(k, 33, w.kind)?;
-    asks::write(k, 34, w.a)?;
-    asks::write(k, 35, w.x)?;
+    write_owed(k, a)?;
     let n = asks::read(k, 64 + p)?;
     let mut all = t;
     all.set(128 + p, n);

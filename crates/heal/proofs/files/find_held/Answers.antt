@@ -20,7 +20,7 @@ use Rattle.heal.specs.Turn.{cells, Calm}
 use Rattle.heal.proofs.Steps.{able, able-less, after-then, after-none, did-then, did-ok, did-lost, same-cell, same-cells, same-box, put-cell, put-box, read-read, inv-exact}
 use Rattle.heal.proofs.Finishing.{pairs-two, within-two, pairs-few, standing-word, decided-word, standing-exact, decided-exact, chosen-exact, chosen-from, finish-keeps, finished, pass-gives}
 use Rattle.heal.proofs.Serving.{not-core, counts-fit, pass-keeps, refused-14, at-one, at-two, in-files, handle-name, users-few, standing-slot}
-use Rattle.heal.proofs.Deciders.{take-no9, take-done, leave-no9, leave-done, hear-no9, hear-waits, hear-done, say-no9, say-done, open-1, open-2, open-8, open-13, open-yes, close-4, close-yes, read-4, read-5, read-yes, write-4, write-6, write-5, write-yes, remove-1, remove-2, remove-8, remove-yes}
+use Rattle.heal.proofs.Deciders.{take-no9, take-done, leave-no9, leave-done, hear-no9, hear-waits, hear-done, say-no9, say-done, open-1, open-2, open-8, open-13, open-yes, open-have, close-4, close-yes, read-4, read-5, read-yes, write-4, write-6, write-5, write-yes, remove-1, remove-2, remove-8, remove-yes}
 use Rattle.heal.proofs.files.find_held.Needs as need
 
 pub returns-then-h-ge8 : need.returns-then-h-ge8

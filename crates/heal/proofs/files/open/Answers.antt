@@ -20,7 +20,7 @@ use Rattle.heal.specs.Turn.{cells, Calm}
 use Rattle.heal.proofs.Steps.{able, able-less, after-then, after-none, did-then, did-ok, did-lost, same-cell, same-cells, same-box, put-cell, put-box, read-read, inv-exact}
 use Rattle.heal.proofs.Finishing.{pairs-two, within-two, pairs-few, standing-word, decided-word, standing-exact, decided-exact, chosen-exact, chosen-from, finish-keeps, finished, pass-gives}
 use Rattle.heal.proofs.Serving.{not-core, counts-fit, pass-keeps, refused-14, at-one, at-two, in-files, handle-name, users-few, standing-slot}
-use Rattle.heal.proofs.Deciders.{take-no9, take-done, leave-no9, leave-done, hear-no9, hear-waits, hear-done, say-no9, say-done, open-1, open-2, open-8, open-13, open-yes, close-4, close-yes, read-4, read-5, read-yes, write-4, write-6, write-5, write-yes, remove-1, remove-2, remove-8, remove-yes}
+use Rattle.heal.proofs.Deciders.{take-no9, take-done, leave-no9, leave-done, hear-no9, hear-waits, hear-done, say-no9, say-done, open-1, open-2, open-8, open-13, open-yes, open-have, close-4, close-yes, read-4, read-5, read-yes, write-4, write-6, write-5, write-yes, remove-1, remove-2, remove-8, remove-yes}
 use Rattle.heal.proofs.files.open.Needs as need
 
 there : (x : ℕ) → (y : mathlib.Core.Bool.Bool) → serverOf (Open x y) ≡ 1
@@ -215,8 +215,8 @@ users-opened-requires g c κs =
     let v = x2 .0 ∙ ap (λ f. f (usersAt (c .args .n))) Q1 in
     omega arith
 
-pub returns-in-Some : need.returns-in-Some
-returns-in-Some g c =
+pub returns-then-size-eq0 : need.returns-then-size-eq0
+returns-then-size-eq0 g c =
     let K = g .K·Desk .kern in
     let S = g .K·Desk .seen in
     let k0 = K (c .args .k .now) in
@@ -249,6 +249,154 @@ returns-in-Some g c =
     let L0 : Lowest (c .args .p) (cells k2) (Some (c .in-Some .e)) = subst (Lowest (c .args .p) (cells k2)) (c .in-Some .is) (x3 .0) in
     let L1 = subst (λ d. Lowest (c .args .p) d (Some (c .in-Some .e))) Q2 L0 in
     let L = subst (λ σ. Lowest (c .args .p) (viewed k0 .cell σ) (Some (c .in-Some .e))) one L1 in
-    let d0 = open-yes (c .args .p) (viewed k0) s0 one (c .pre .stand .small) (c .args .n) (c .args .w) (c .in-Some .e) (c .in-Continue-users .users) (c .in-Continue-size .size) (c .pre .stand) (c .if-n-ge64 .left) u z (c .is-missing .ensures .no (c .if-is-missing .left)) nc (L .0) (L .1) (L .2) in
-    let d1 = subst (λ ps. Decided (c .args .p) (Open (c .args .n) (c .args .w)) (Handle (c .in-Some .e)) ps (viewed k0) s0) (λ i. (handAt (c .args .p) (c .in-Some .e), sym (c .hand-word .ensures) i) ∷ (usersAt (c .args .n), sym (c .users-opened .ensures) i) ∷ (sizeAt (c .args .n), sym (c .size-opened .ensures) i) ∷ []) d0 in
-    did-ok 10 10 k0 k3 s0 s3 (c .write-three .result) _ (omega arith) A3 (chosen-exact (c .args .p) (Open (c .args .n) (c .args .w)) (c .write-three .result) (viewed k0) k3 s0 s3 E3 (chosen-from (c .args .p) (Open (c .args .n) (c .args .w)) (c .write-three .result) (Handle (c .in-Some .e)) ((handAt (c .args .p) (c .in-Some .e), c .hand-word .result) ∷ (usersAt (c .args .n), c .users-opened .result) ∷ (sizeAt (c .args .n), c .size-opened .result) ∷ []) (viewed k0) s0 (c .write-three .ensures) (c .pre .stand) (d1)), same-box k0 k3 s0 s3 E3)
+    let d0 = open-yes (c .args .p) (viewed k0) s0 one (c .pre .stand .small) (c .args .n) (c .args .w) (c .in-Some .e) (c .in-Continue-users .users) 0 (c .pre .stand) (c .if-n-ge64 .left) u (z ∙ c .if-size-eq0 .taken) (⊎-elim (λ e. absurd (e (c .if-size-eq0 .taken))) (λ e. inr e) (c .is-missing .ensures .no (c .if-is-missing .left))) nc (L .0) (L .1) (L .2) in
+    let d1 = subst (λ ps. Decided (c .args .p) (Open (c .args .n) (c .args .w)) (Handle (c .in-Some .e)) ps (viewed k0) s0) (λ i. (handAt (c .args .p) (c .in-Some .e), sym (c .hand-word .ensures) i) ∷ (usersAt (c .args .n), sym (c .users-opened .ensures) i) ∷ (sizeAt (c .args .n), 1) ∷ []) d0 in
+    did-ok 10 10 k0 k3 s0 s3 (c .write-three .result) _ (omega arith) A3 (chosen-exact (c .args .p) (Open (c .args .n) (c .args .w)) (c .write-three .result) (viewed k0) k3 s0 s3 E3 (chosen-from (c .args .p) (Open (c .args .n) (c .args .w)) (c .write-three .result) (Handle (c .in-Some .e)) ((handAt (c .args .p) (c .in-Some .e), c .hand-word .result) ∷ (usersAt (c .args .n), c .users-opened .result) ∷ (sizeAt (c .args .n), 1) ∷ []) (viewed k0) s0 (c .write-three .ensures) (c .pre .stand) (d1)), same-box k0 k3 s0 s3 E3)
+
+pub returns-else-size-eq0 : need.returns-else-size-eq0
+returns-else-size-eq0 g c =
+    let K = g .K·Desk .kern in
+    let S = g .K·Desk .seen in
+    let k0 = K (c .args .k .now) in
+    let s0 = S (c .args .k .now) in
+    let k1 = K (c .read-far .last .k) in
+    let s1 = S (c .read-far .last .k) in
+    let r1 = c .in-Continue-size .ensures tt in
+    let x1 = r1 .gives _ refl in
+    let A1 = r1 .after in
+    let E1 = x1 .1 in
+    let Q1 = same-cells k0 k1 s0 s1 E1 in
+    let k2 = K (c .read-far-2 .last .k) in
+    let s2 = S (c .read-far-2 .last .k) in
+    let r2 = c .in-Continue-users .ensures tt in
+    let x2 = r2 .gives _ refl in
+    let A2 = after-then 1 1 k0 k1 k2 s0 s1 s2 true A1 (r2 .after) in
+    let E2 = read-read k0 k1 k2 s0 s1 s2 E1 (x2 .1) in
+    let Q2 = same-cells k0 k2 s0 s2 E2 in
+    let k3 = K (c .lowest-empty .last .k) in
+    let s3 = S (c .lowest-empty .last .k) in
+    let r3 = c .in-Continue-lowest-empty .ensures tt in
+    let x3 = r3 .gives _ refl in
+    let A3 = after-then 2 8 k0 k2 k3 s0 s2 s3 true A2 (r3 .after) in
+    let E3 = read-read k0 k2 k3 s0 s2 s3 E2 (x3 .1) in
+    let Q3 = same-cells k0 k3 s0 s3 E3 in
+    let one = at-one (c .args .p) (Open (c .args .n) (c .args .w)) (viewed k0) (c .pre .stand) (there (c .args .n) (c .args .w)) in
+    let z : viewed k0 .cell 1 (sizeAt (c .args .n)) ≡ c .in-Continue-size .size = subst (λ σ. viewed k0 .cell σ (sizeAt (c .args .n)) ≡ c .in-Continue-size .size) one (sym (x1 .0)) in
+    let u : viewed k0 .cell 1 (usersAt (c .args .n)) ≡ c .in-Continue-users .users = subst (λ σ. viewed k0 .cell σ (usersAt (c .args .n)) ≡ c .in-Continue-users .users) one (sym (x2 .0 ∙ ap (λ f. f (usersAt (c .args .n))) Q1)) in
+    let nc = c .clashes .ensures .no (c .if-clashes .left) in
+    let L0 : Lowest (c .args .p) (cells k2) (Some (c .in-Some .e)) = subst (Lowest (c .args .p) (cells k2)) (c .in-Some .is) (x3 .0) in
+    let L1 = subst (λ d. Lowest (c .args .p) d (Some (c .in-Some .e))) Q2 L0 in
+    let L = subst (λ σ. Lowest (c .args .p) (viewed k0 .cell σ) (Some (c .in-Some .e))) one L1 in
+    let d0 = open-have (c .args .p) (viewed k0) s0 one (c .pre .stand .small) (c .args .n) (c .args .w) (c .in-Some .e) (c .in-Continue-users .users) (c .in-Continue-size .size) (c .pre .stand) (c .if-n-ge64 .left) u z (c .if-size-eq0 .left) nc (L .0) (L .1) (L .2) in
+    let d1 = subst (λ ps. Decided (c .args .p) (Open (c .args .n) (c .args .w)) (Handle (c .in-Some .e)) ps (viewed k0) s0) (λ i. (handAt (c .args .p) (c .in-Some .e), sym (c .hand-word-in-Some .ensures) i) ∷ (usersAt (c .args .n), sym (c .users-opened-in-Some .ensures) i) ∷ []) d0 in
+    did-ok 10 10 k0 k3 s0 s3 (c .write-two .result) _ (omega arith) A3 (chosen-exact (c .args .p) (Open (c .args .n) (c .args .w)) (c .write-two .result) (viewed k0) k3 s0 s3 E3 (chosen-from (c .args .p) (Open (c .args .n) (c .args .w)) (c .write-two .result) (Handle (c .in-Some .e)) ((handAt (c .args .p) (c .in-Some .e), c .hand-word-in-Some .result) ∷ (usersAt (c .args .n), c .users-opened-in-Some .result) ∷ []) (viewed k0) s0 (c .write-two .ensures) (c .pre .stand) (d1)), same-box k0 k3 s0 s3 E3)
+
+pub add-p-then-size-eq0 : need.add-p-then-size-eq0
+add-p-then-size-eq0 g c =
+    let K = g .K·Desk .kern in
+    let S = g .K·Desk .seen in
+    let k0 = K (c .args .k .now) in
+    let s0 = S (c .args .k .now) in
+    let k1 = K (c .read-far .last .k) in
+    let s1 = S (c .read-far .last .k) in
+    let r1 = c .in-Continue-size .ensures tt in
+    let x1 = r1 .gives _ refl in
+    let A1 = r1 .after in
+    let E1 = x1 .1 in
+    let Q1 = same-cells k0 k1 s0 s1 E1 in
+    let k2 = K (c .read-far-2 .last .k) in
+    let s2 = S (c .read-far-2 .last .k) in
+    let r2 = c .in-Continue-users .ensures tt in
+    let x2 = r2 .gives _ refl in
+    let A2 = after-then 1 1 k0 k1 k2 s0 s1 s2 true A1 (r2 .after) in
+    let E2 = read-read k0 k1 k2 s0 s1 s2 E1 (x2 .1) in
+    let Q2 = same-cells k0 k2 s0 s2 E2 in
+    let k3 = K (c .lowest-empty .last .k) in
+    let s3 = S (c .lowest-empty .last .k) in
+    let r3 = c .in-Continue-lowest-empty .ensures tt in
+    let x3 = r3 .gives _ refl in
+    let A3 = after-then 2 8 k0 k2 k3 s0 s2 s3 true A2 (r3 .after) in
+    let E3 = read-read k0 k2 k3 s0 s2 s3 E2 (x3 .1) in
+    let Q3 = same-cells k0 k3 s0 s3 E3 in
+    let one = at-one (c .args .p) (Open (c .args .n) (c .args .w)) (viewed k0) (c .pre .stand) (there (c .args .n) (c .args .w)) in
+    let z : viewed k0 .cell 1 (sizeAt (c .args .n)) ≡ c .in-Continue-size .size = subst (λ σ. viewed k0 .cell σ (sizeAt (c .args .n)) ≡ c .in-Continue-size .size) one (sym (x1 .0)) in
+    let u : viewed k0 .cell 1 (usersAt (c .args .n)) ≡ c .in-Continue-users .users = subst (λ σ. viewed k0 .cell σ (usersAt (c .args .n)) ≡ c .in-Continue-users .users) one (sym (x2 .0 ∙ ap (λ f. f (usersAt (c .args .n))) Q1)) in
+    let nc = c .clashes .ensures .no (c .if-clashes .left) in
+    let L0 : Lowest (c .args .p) (cells k2) (Some (c .in-Some .e)) = subst (Lowest (c .args .p) (cells k2)) (c .in-Some .is) (x3 .0) in
+    let L1 = subst (λ d. Lowest (c .args .p) d (Some (c .in-Some .e))) Q2 L0 in
+    let L = subst (λ σ. Lowest (c .args .p) (viewed k0 .cell σ) (Some (c .in-Some .e))) one L1 in
+    omega (arith, L .0, c .pre .stand .small)
+
+pub add-p-in-Some-2 : need.add-p-in-Some-2
+add-p-in-Some-2 g c =
+    let K = g .K·Desk .kern in
+    let S = g .K·Desk .seen in
+    let k0 = K (c .args .k .now) in
+    let s0 = S (c .args .k .now) in
+    let k1 = K (c .read-far .last .k) in
+    let s1 = S (c .read-far .last .k) in
+    let r1 = c .in-Continue-size .ensures tt in
+    let x1 = r1 .gives _ refl in
+    let A1 = r1 .after in
+    let E1 = x1 .1 in
+    let Q1 = same-cells k0 k1 s0 s1 E1 in
+    let k2 = K (c .read-far-2 .last .k) in
+    let s2 = S (c .read-far-2 .last .k) in
+    let r2 = c .in-Continue-users .ensures tt in
+    let x2 = r2 .gives _ refl in
+    let A2 = after-then 1 1 k0 k1 k2 s0 s1 s2 true A1 (r2 .after) in
+    let E2 = read-read k0 k1 k2 s0 s1 s2 E1 (x2 .1) in
+    let Q2 = same-cells k0 k2 s0 s2 E2 in
+    let k3 = K (c .lowest-empty .last .k) in
+    let s3 = S (c .lowest-empty .last .k) in
+    let r3 = c .in-Continue-lowest-empty .ensures tt in
+    let x3 = r3 .gives _ refl in
+    let A3 = after-then 2 8 k0 k2 k3 s0 s2 s3 true A2 (r3 .after) in
+    let E3 = read-read k0 k2 k3 s0 s2 s3 E2 (x3 .1) in
+    let Q3 = same-cells k0 k3 s0 s3 E3 in
+    let one = at-one (c .args .p) (Open (c .args .n) (c .args .w)) (viewed k0) (c .pre .stand) (there (c .args .n) (c .args .w)) in
+    let z : viewed k0 .cell 1 (sizeAt (c .args .n)) ≡ c .in-Continue-size .size = subst (λ σ. viewed k0 .cell σ (sizeAt (c .args .n)) ≡ c .in-Continue-size .size) one (sym (x1 .0)) in
+    let u : viewed k0 .cell 1 (usersAt (c .args .n)) ≡ c .in-Continue-users .users = subst (λ σ. viewed k0 .cell σ (usersAt (c .args .n)) ≡ c .in-Continue-users .users) one (sym (x2 .0 ∙ ap (λ f. f (usersAt (c .args .n))) Q1)) in
+    let nc = c .clashes .ensures .no (c .if-clashes .left) in
+    let L0 : Lowest (c .args .p) (cells k2) (Some (c .in-Some .e)) = subst (Lowest (c .args .p) (cells k2)) (c .in-Some .is) (x3 .0) in
+    let L1 = subst (λ d. Lowest (c .args .p) d (Some (c .in-Some .e))) Q2 L0 in
+    let L = subst (λ σ. Lowest (c .args .p) (viewed k0 .cell σ) (Some (c .in-Some .e))) one L1 in
+    omega (arith, L .0, c .pre .stand .small)
+
+pub users-opened-requires-in-Some : need.users-opened-requires-in-Some
+users-opened-requires-in-Some g c κs =
+    let K = g .K·Desk .kern in
+    let S = g .K·Desk .seen in
+    let k0 = K (c .args .k .now) in
+    let s0 = S (c .args .k .now) in
+    let k1 = K (c .read-far .last .k) in
+    let s1 = S (c .read-far .last .k) in
+    let r1 = c .in-Continue-size .ensures tt in
+    let x1 = r1 .gives _ refl in
+    let A1 = r1 .after in
+    let E1 = x1 .1 in
+    let Q1 = same-cells k0 k1 s0 s1 E1 in
+    let k2 = K (c .read-far-2 .last .k) in
+    let s2 = S (c .read-far-2 .last .k) in
+    let r2 = c .in-Continue-users .ensures tt in
+    let x2 = r2 .gives _ refl in
+    let A2 = after-then 1 1 k0 k1 k2 s0 s1 s2 true A1 (r2 .after) in
+    let E2 = read-read k0 k1 k2 s0 s1 s2 E1 (x2 .1) in
+    let Q2 = same-cells k0 k2 s0 s2 E2 in
+    let k3 = K (c .lowest-empty .last .k) in
+    let s3 = S (c .lowest-empty .last .k) in
+    let r3 = c .in-Continue-lowest-empty .ensures tt in
+    let x3 = r3 .gives _ refl in
+    let A3 = after-then 2 8 k0 k2 k3 s0 s2 s3 true A2 (r3 .after) in
+    let E3 = read-read k0 k2 k3 s0 s2 s3 E2 (x3 .1) in
+    let Q3 = same-cells k0 k3 s0 s3 E3 in
+    let one = at-one (c .args .p) (Open (c .args .n) (c .args .w)) (viewed k0) (c .pre .stand) (there (c .args .n) (c .args .w)) in
+    let z : viewed k0 .cell 1 (sizeAt (c .args .n)) ≡ c .in-Continue-size .size = subst (λ σ. viewed k0 .cell σ (sizeAt (c .args .n)) ≡ c .in-Continue-size .size) one (sym (x1 .0)) in
+    let u : viewed k0 .cell 1 (usersAt (c .args .n)) ≡ c .in-Continue-users .users = subst (λ σ. viewed k0 .cell σ (usersAt (c .args .n)) ≡ c .in-Continue-users .users) one (sym (x2 .0 ∙ ap (λ f. f (usersAt (c .args .n))) Q1)) in
+    let nc = c .clashes .ensures .no (c .if-clashes .left) in
+    let L0 : Lowest (c .args .p) (cells k2) (Some (c .in-Some .e)) = subst (Lowest (c .args .p) (cells k2)) (c .in-Some .is) (x3 .0) in
+    let L1 = subst (λ d. Lowest (c .args .p) d (Some (c .in-Some .e))) Q2 L0 in
+    let L = subst (λ σ. Lowest (c .args .p) (viewed k0 .cell σ) (Some (c .in-Some .e))) one L1 in
+    let uf = users-few (c .args .n) k0 s0 one (c .if-n-ge64 .left) (c .pre .able .inv) in
+    let v = x2 .0 ∙ ap (λ f. f (usersAt (c .args .n))) Q1 in
+    omega arith

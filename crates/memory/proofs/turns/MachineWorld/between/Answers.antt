@@ -1,0 +1,4 @@
+use Rattle.memory.proofs.turns.MachineWorld.between.Needs as need
+
+pub returns : need.returns
+returns c = c .between .ensures .between
