@@ -136,12 +136,12 @@ fn little_room_is_no_harm() {
 #[test]
 fn falls_change_nothing_that_is_told() {
     let mut chance = Chance(5);
-    for _ in 0..500 {
+    for _ in 0..300 {
         let mut script = String::new();
         for _ in 0..1 + chance.below(12) {
             script += &format!("1 {}\non\n", chance.pick(&["wait", "take", "open 3 w", "write 0 1 7", "say 5", "kill 9"]));
         }
-        let falls = format!("falls {} {}\n", chance.below(1_000_000), 2 + chance.below(20));
+        let falls = format!("falls {} {}\n", chance.below(1_000_000), 4 + chance.below(20));
         let calm = station::play(script.as_bytes());
         let falling = station::play((falls + &script).as_bytes());
         assert!(calm.whole && falling.whole);
