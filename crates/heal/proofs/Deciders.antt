@@ -245,15 +245,12 @@ module _ (p : ℕ) (k : Kern) (es : List Event) (two : k .at ≡ 2) where
   not-hear x e = let z : _≡_ {A = ℕ} 0 1 = cc in omega arith
 
   -- the desk is another's
-  take-no : Standing p Take k → (ownerIn (k .cell 2) ≡ 0 → ⊥) → (ownerIn (k .cell 2) ≡ p → ⊥) → Decided p Take (No 9) [] k es
+  pub take-no9 : Standing p Take k → (ownerIn (k .cell 2) ≡ 0 → ⊥) → (ownerIn (k .cell 2) ≡ p → ⊥) → Decided p Take (No 9) [] k es
   unfolding core does waitsIn
-  take-no z a b = refused p Take 9 k es z tt (λ s d. even-here p Take k z s d not-take) (λ s r d f. (let e = d .owns in (owner-no (s .owner) (ownerIn (k .cell 2)) p s e a b, refl)))
+  take-no9 z a b = refused p Take 9 k es z tt (λ s d. even-here p Take k z s d not-take) (λ s r d f. (let e = d .owns in (owner-no (s .owner) (ownerIn (k .cell 2)) p s e a b, refl)))
     where
       owner-no : (o w p : ℕ) (s : State) → o ≡ w → (w ≡ 0 → ⊥) → (w ≡ p → ⊥) → cond (eqb o 0 || eqb o p) (Gives Done (setDesk p (s .screen) (s .keys) (s .heard) s)) (Gives (No 9) s) ≡ Gives (No 9) s
       owner-no o w p s e a b = grind (arith, tests)
-
-  pub take-no9 : Standing p Take k → (ownerIn (k .cell 2) ≡ 0 → ⊥) → (ownerIn (k .cell 2) ≡ p → ⊥) → Decided p Take (No 9) [] k es
-  take-no9 z a b = take-no z a b
 
   pub take-done : Standing p Take k → (ownerIn (k .cell 2) ≡ 0) ⊎ (ownerIn (k .cell 2) ≡ p) → Decided p Take Done ((52, p) ∷ []) k es
   unfolding core does fits ends waitsIn keptAll Within

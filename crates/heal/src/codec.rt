@@ -1,6 +1,6 @@
 // Calls and answers as words: one way in and one way back each. What `encode` promises is the law, that back after in is the same.
 ghost use mathlib.Core.Path.{_≡_};
-ghost use Rattle.heal.specs.Codec.{callOf, answerOf, clamped};
+ghost use Rattle.heal.specs.Codec.{callOf, answerOf, clamped, hasB, hasX};
 use crate::Answer;
 use crate::Call;
 
@@ -192,4 +192,18 @@ pub fn decode_call(w: CallWords) -> Call
     } else {
         Call::Hear
     }
+}
+
+// whether calls of this kind have the word b; what they don't have needn't be read
+pub fn has_b(kind: u64) -> bool
+    ensures { λ r. ⌜ r ≡ hasB kind ⌝ }
+{
+    kind == 5 || kind == 7 || kind == 8
+}
+
+// whether calls of this kind have the word x
+pub fn has_x(kind: u64) -> bool
+    ensures { λ r. ⌜ r ≡ hasX kind ⌝ }
+{
+    kind == 8 || kind == 12
 }

@@ -1,6 +1,6 @@
 // Calls are taken from the box into slots, one slot for each program; a sweep goes over the slots.
 ghost use mathlib.Core.Path.{_≡_};
-ghost use mathlib.Core.Bool.{Bool, true, false};
+ghost use mathlib.Core.Bool.{Bool, true, false, cond};
 ghost use mathlib.Core.List.{[]};
 ghost use Prim.Native.Nat.{ℕ, _+_, _<_, _≤_};
 ghost use lib.Dec.{T};
@@ -28,7 +28,9 @@ use crate::ready::ReadySet;
 use crate::screen;
 use crate::transaction::Transaction;
 
-// Cells that every server has: where the sweep is; the answer that is owed; who has a slot to be looked at.
+// Cells that every server has. SWEEP: the slot where the sweep is, 0 at rest, or OWING + p: p is owed an answer, whose words are
+// OWED_KIND, OWED_A and OWED_X. READY: who has a slot that the sweep must look at. For each program: LAST, 1 + the number of the last
+// call that was accepted; DONE, 1 + that of the last that had its moment; and the words of the call in the slot.
 const SWEEP: u32 = 32;
 
 const OWED_KIND: u32 = 33;
@@ -38,6 +40,20 @@ const OWED_A: u32 = 34;
 const OWED_X: u32 = 35;
 
 const READY: u32 = 36;
+
+const LAST: u32 = 64;
+
+const DONE: u32 = 128;
+
+const CALL_KIND: u32 = 192;
+
+const CALL_A: u32 = 256;
+
+const CALL_B: u32 = 320;
+
+const CALL_X: u32 = 384;
+
+const OWING: u32 = 64;
 
 // the first slot after p that the sweep has to look at, or 0
 fn next_ready<K: Desk>(k: &mut K, p: u32) -> Result<u32, Down>
@@ -49,6 +65,7 @@ fn next_ready<K: Desk>(k: &mut K, p: u32) -> Result<u32, Down>
     Ok(ReadySet { bits }.first_from(p + 1))
 }
 
+// p has a slot that the sweep must look at
 fn add_ready<K: Desk>(k: &mut K, p: u32) -> Result<(), Down>
     requires able { ⌜ Able 2 (kern (now k)) (seen (now k)) ⌝ }
     requires small { ⌜ p < 64 ⌝ }
@@ -67,11 +84,11 @@ fn store<K: Desk>(k: &mut K, p: u32, number: u64, call: Call) -> Result<(), Down
     ensures { λ r. ⌜ Did 5 (kern (now (k .entry))) (seen (now (k .entry))) r (kern (now (k .exit))) (seen (now (k .exit))) (λ _. Stored p number (kern (now (k .entry))) (kern (now (k .exit)))) ⌝ }
 {
     let w = codec::encode_call(call);
-    asks::write(k, 192 + p, w.kind)?;
-    asks::write(k, 256 + p, w.a)?;
-    asks::write(k, 320 + p, w.b)?;
-    asks::write(k, 384 + p, w.x)?;
-    asks::write(k, 64 + p, number + 1)
+    asks::write(k, CALL_KIND + p, w.kind)?;
+    asks::write(k, CALL_A + p, w.a)?;
+    asks::write(k, CALL_B + p, w.b)?;
+    asks::write(k, CALL_X + p, w.x)?;
+    asks::write(k, LAST + p, number + 1)
 }
 
 // the first message of the box goes into its slot
@@ -83,7 +100,7 @@ fn accept<K: Desk>(k: &mut K, p: u32, number: u64, call: Call) -> Result<(), Dow
     requires calm { ⌜ sweep (cells (kern (now k))) < 64 ⌝ }
     ensures { λ r. ⌜ Did 9 (kern (now (k .entry))) (seen (now (k .entry))) r (kern (now (k .exit))) (seen (now (k .exit))) (λ _. Fewer (kern (now (k .entry))) (kern (now (k .exit)))) ⌝ }
 {
-    let last = asks::read(k, 64 + p)?;
+    let last = asks::read(k, LAST + p)?;
     if number < last {
         return asks::take(k);
     }
@@ -99,19 +116,20 @@ fn tell<K: Desk>(k: &mut K, p: u32) -> Result<(), Down>
     ensures { λ r. ⌜ Did 7 (kern (now (k .entry))) (seen (now (k .entry))) r (kern (now (k .exit))) (seen (now (k .exit))) (λ _. Calm (kern (now (k .entry))) (kern (now (k .exit)))) ⌝ }
 {
     let a = owed_answer(k)?;
-    let n = asks::read(k, 128 + p)?;
+    let n = asks::read(k, DONE + p)?;
     asks::answer(k, p, n - 1, a)?;
     let w = next_ready(k, p)?;
     asks::write(k, SWEEP, w as u64)
 }
 
+// the answer that is owed
 fn owed_answer<K: Desk>(k: &mut K) -> Result<Answer, Down>
     requires able { ⌜ Able 3 (kern (now k)) (seen (now k)) ⌝ }
     ensures { λ r. ⌜ Did 3 (kern (now (k .entry))) (seen (now (k .entry))) r (kern (now (k .exit))) (seen (now (k .exit))) (λ a. (a ≡ owed (cells (kern (now (k .entry))))) × Exact (viewed (kern (now (k .entry)))) (seen (now (k .entry))) (kern (now (k .exit))) (seen (now (k .exit)))) ⌝ }
 {
-    let kind = asks::read(k, 33)?;
-    let a = asks::read(k, 34)?;
-    let x = asks::read(k, 35)?;
+    let kind = asks::read(k, OWED_KIND)?;
+    let a = asks::read(k, OWED_A)?;
+    let x = asks::read(k, OWED_X)?;
     Ok(codec::decode_answer(codec::AnswerWords { kind, a, x }))
 }
 
@@ -143,10 +161,10 @@ fn finish<K: Desk>(k: &mut K, p: u32, a: Answer, t: Transaction) -> Result<(), D
     ensures { λ r. ⌜ Did 54 (kern (now (k .entry))) (seen (now (k .entry))) r (kern (now (k .exit))) (seen (now (k .exit))) (λ _. Finished p (kern (now (k .entry))) (seen (now (k .entry))) (kern (now (k .exit))) (seen (now (k .exit)))) ⌝ }
 {
     write_owed(k, a)?;
-    let n = asks::read(k, 64 + p)?;
+    let n = asks::read(k, LAST + p)?;
     let mut all = t;
-    all.set(128 + p, n);
-    all.set(SWEEP, (64 + p) as u64);
+    all.set(DONE + p, n);
+    all.set(SWEEP, (OWING + p) as u64);
     asks::commit(k, all)
 }
 
@@ -212,13 +230,14 @@ fn clear<K: Desk>(k: &mut K, p: u32) -> Result<(), Down>
     asks::write(k, SWEEP, w as u64)
 }
 
+// whether there's a call in p's slot
 fn is_full<K: Desk>(k: &mut K, p: u32) -> Result<bool, Down>
     requires able { ⌜ Able 2 (kern (now k)) (seen (now k)) ⌝ }
     requires small { ⌜ p < 64 ⌝ }
     ensures { λ r. ⌜ Did 2 (kern (now (k .entry))) (seen (now (k .entry))) r (kern (now (k .exit))) (seen (now (k .exit))) (λ (b : Bool). (b ≡ true → done (cells (kern (now (k .entry)))) p < last (cells (kern (now (k .entry)))) p) × (b ≡ false → done (cells (kern (now (k .entry)))) p ≡ last (cells (kern (now (k .entry)))) p) × Exact (viewed (kern (now (k .entry)))) (seen (now (k .entry))) (kern (now (k .exit))) (seen (now (k .exit)))) ⌝ }
 {
-    let last = asks::read(k, 64 + p)?;
-    let done = asks::read(k, 128 + p)?;
+    let last = asks::read(k, LAST + p)?;
+    let done = asks::read(k, DONE + p)?;
     Ok(done != last)
 }
 
@@ -281,6 +300,7 @@ fn drain_one<K: Desk>(k: &mut K) -> Result<bool, Down>
     }
 }
 
+// the whole box: at most a call of each program
 fn drain<K: Desk>(k: &mut K) -> Result<(), Down>
     requires able { ⌜ Able 700 (kern (now k)) (seen (now k)) ⌝ }
     requires calm { ⌜ sweep (cells (kern (now k))) < 64 ⌝ }
@@ -313,19 +333,34 @@ fn work<K: Desk>(k: &mut K) -> Result<(), Down>
     Ok(())
 }
 
-// what is owed is told
-fn settle<K: Desk>(k: &mut K) -> Result<(), Down>
-    requires able { ⌜ Able 8 (kern (now k)) (seen (now k)) ⌝ }
-    ensures { λ r. ⌜ Did 8 (kern (now (k .entry))) (seen (now (k .entry))) r (kern (now (k .exit))) (seen (now (k .exit))) (λ _. Calm (kern (now (k .entry))) (kern (now (k .exit)))) ⌝ }
+// what is owed is told; hands back where the sweep is then
+fn settle<K: Desk>(k: &mut K) -> Result<u64, Down>
+    requires able { ⌜ Able 9 (kern (now k)) (seen (now k)) ⌝ }
+    ensures { λ r. ⌜ Did 9 (kern (now (k .entry))) (seen (now (k .entry))) r (kern (now (k .exit))) (seen (now (k .exit))) (λ (at : ℕ). (at ≡ sweep (cells (kern (now (k .exit))))) × Calm (kern (now (k .entry))) (kern (now (k .exit)))) ⌝ }
 {
     let at = asks::read(k, SWEEP)?;
     if at < 64 {
-        return Ok(());
+        return Ok(at);
     }
-    tell(k, (at - 64) as u32)
+    tell(k, (at - 64) as u32)?;
+    asks::read(k, SWEEP)
 }
 
 // a sweep begins, if none is under way
+fn begin_at_rest<K: Desk>(k: &mut K, at: u64) -> Result<(), Down>
+    requires able { ⌜ Able 2 (kern (now k)) (seen (now k)) ⌝ }
+    requires here { ⌜ at ≡ sweep (cells (kern (now k))) ⌝ }
+    requires calm { ⌜ at < 64 ⌝ }
+    requires empty { ⌜ kern (now k) .box (kern (now k) .at) ≡ [] ⌝ }
+    ensures { λ r. ⌜ Did 2 (kern (now (k .entry))) (seen (now (k .entry))) r (kern (now (k .exit))) (seen (now (k .exit))) (λ _. Calm (kern (now (k .entry))) (kern (now (k .exit))) × (sweep (cells (kern (now (k .entry)))) ≡ 0 → Begun (kern (now (k .entry))) (seen (now (k .entry))) (kern (now (k .exit))) (seen (now (k .exit))))) ⌝ }
+{
+    if at == 0 {
+        return begin(k);
+    }
+    Ok(())
+}
+
+// the same, where it isn't known where the sweep is
 fn go_on<K: Desk>(k: &mut K) -> Result<(), Down>
     requires able { ⌜ Able 3 (kern (now k)) (seen (now k)) ⌝ }
     requires calm { ⌜ sweep (cells (kern (now k))) < 64 ⌝ }
@@ -333,10 +368,7 @@ fn go_on<K: Desk>(k: &mut K) -> Result<(), Down>
     ensures { λ r. ⌜ Did 3 (kern (now (k .entry))) (seen (now (k .entry))) r (kern (now (k .exit))) (seen (now (k .exit))) (λ _. Calm (kern (now (k .entry))) (kern (now (k .exit))) × (sweep (cells (kern (now (k .entry)))) ≡ 0 → Begun (kern (now (k .entry))) (seen (now (k .entry))) (kern (now (k .exit))) (seen (now (k .exit))))) ⌝ }
 {
     let at = asks::read(k, SWEEP)?;
-    if at == 0 {
-        return begin(k);
-    }
-    Ok(())
+    begin_at_rest(k, at)
 }
 
 // A turn: what is owed is told, the box is emptied, and steps of the sweep are made.
@@ -348,11 +380,23 @@ pub fn turn<K: Desk>(k: &mut K) -> Result<(), Down>
     ensures { λ r. ⌜ Turned (kern (now (k .entry))) (seen (now (k .entry))) (isOk r) (kern (now (k .exit))) (seen (now (k .exit))) ⌝ }
 {
     journal::recover(k)?;
-    settle(k)?;
+    let at = settle(k)?;
     drain(k)?;
-    go_on(k)?;
+    begin_at_rest(k, at)?;
     work(k)?;
     go_on(k)
+}
+
+// a word of a call, if calls of its kind have it: each thing that isn't asked is one that can't be fallen over
+fn read_if<K: Desk>(k: &mut K, cell: u32, has: bool) -> Result<u64, Down>
+    requires able { ⌜ Able 1 (kern (now k)) (seen (now k)) ⌝ }
+    requires small { ⌜ cell < 512 ⌝ }
+    ensures { λ r. ⌜ Did 1 (kern (now (k .entry))) (seen (now (k .entry))) r (kern (now (k .exit))) (seen (now (k .exit))) (λ (x : ℕ). (x ≡ cond has (cells (kern (now (k .entry))) cell) 0) × Exact (viewed (kern (now (k .entry)))) (seen (now (k .entry))) (kern (now (k .exit))) (seen (now (k .exit)))) ⌝ }
+{
+    if has {
+        return asks::read(k, cell);
+    }
+    Ok(0)
 }
 
 // the call in p's slot
@@ -364,9 +408,9 @@ fn slot<K: Desk>(k: &mut K, p: u32) -> Result<Option<Call>, Down>
     if !is_full(k, p)? {
         return Ok(None);
     }
-    let kind = asks::read(k, 192 + p)?;
-    let a = asks::read(k, 256 + p)?;
-    let b = asks::read(k, 320 + p)?;
-    let x = asks::read(k, 384 + p)?;
+    let kind = asks::read(k, CALL_KIND + p)?;
+    let a = asks::read(k, CALL_A + p)?;
+    let b = read_if(k, CALL_B + p, codec::has_b(kind))?;
+    let x = read_if(k, CALL_X + p, codec::has_x(kind))?;
     Ok(Some(codec::decode_call(codec::CallWords { kind, a, b, x })))
 }

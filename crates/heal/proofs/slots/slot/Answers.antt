@@ -1,6 +1,7 @@
 use mathlib.Core.Path.{_≡_, refl, sym, ap, _∙_}
 use mathlib.Core.Logic.{inl, inr}
-use mathlib.Core.Bool.{true, false, not}
+use mathlib.Core.Bool.{true, false, cond, not}
+use Rattle.heal.specs.Codec.{hasB, hasX}
 use native.Mathlib.Omega.{arith}
 use Prim.Native.Nat.{ℕ, _+_, _-_, _<_, _≤_}
 use lib.Dec.{eqb}
@@ -49,13 +50,13 @@ returns g c =
     let r3 = c .in-Continue-a .ensures tt in
     let x3 = r3 .gives _ refl in
     let A3 = after-then 3 1 k0 k2 k3 s0 s2 s3 true A2 (r3 .after) in
-    let k4 = K (c .read-3 .last .k) in
-    let s4 = S (c .read-3 .last .k) in
+    let k4 = K (c .read-if .last .k) in
+    let s4 = S (c .read-if .last .k) in
     let r4 = c .in-Continue-b .ensures tt in
     let x4 = r4 .gives _ refl in
     let A4 = after-then 4 1 k0 k3 k4 s0 s3 s4 true A3 (r4 .after) in
-    let k5 = K (c .read-4 .last .k) in
-    let s5 = S (c .read-4 .last .k) in
+    let k5 = K (c .read-if-2 .last .k) in
+    let s5 = S (c .read-if-2 .last .k) in
     let r5 = c .in-Continue-x .ensures tt in
     let x5 = r5 .gives _ refl in
     let A5 = after-then 5 1 k0 k4 k5 s0 s4 s5 true A4 (r5 .after) in
@@ -66,8 +67,8 @@ returns g c =
     let q4 = same-cells k3 k4 s3 s4 (x4 .1) ∙ q3 in
     let u1 = x2 .0 ∙ ap (λ f. f (192 + p)) q1 in
     let u2 = x3 .0 ∙ ap (λ f. f (256 + p)) q2 in
-    let u3 = x4 .0 ∙ ap (λ f. f (320 + p)) q3 in
-    let u4 = x5 .0 ∙ ap (λ f. f (384 + p)) q4 in
+    let u3 = x4 .0 ∙ (ap (λ h. cond h (cells k3 (320 + p)) 0) (c .has-b .ensures) ∙ ap (λ f. cond (hasB (c .in-Continue-kind .kind)) (f (320 + p)) 0) q3) in
+    let u4 = x5 .0 ∙ (ap (λ h. cond h (cells k4 (384 + p)) 0) (c .has-x .ensures) ∙ ap (λ f. cond (hasX (c .in-Continue-kind .kind)) (f (384 + p)) 0) q4) in
     let v = c .decode-call .ensures in
     let ex = read-read k0 k4 k5 s0 s4 s5 (read-read k0 k3 k4 s0 s3 s4 (read-read k0 k2 k3 s0 s2 s3 (read-read k0 k1 k2 s0 s1 s2 (x1 .2) (x2 .1)) (x3 .1)) (x4 .1)) (x5 .1) in
     did-ok 6 6 k0 k5 s0 s5 _ _ (omega arith) A5 (slot-some p k0 s0 (c .decode-call .result) (c .pre .small) (x1 .0 (c .if-not-branch .left)) (same-words _ _ _ _ _ _ _ _ _ v u1 u2 u3 u4) (c .pre .able .inv), ex)
@@ -124,7 +125,7 @@ returns-in-Break-b g c =
     let r3 = c .in-Continue-a .ensures tt in
     let x3 = r3 .gives _ refl in
     let A3 = after-then 3 1 k0 k2 k3 s0 s2 s3 true A2 (r3 .after) in
-    did-lost 5 6 k0 (K (c .read-3 .last .k)) s0 (S (c .read-3 .last .k)) (c .from-residual-in-Break-b .result) _ (omega arith) (c .from-residual-in-Break-b .ensures .0) (after-then 4 1 k0 k3 (K (c .read-3 .last .k)) s0 s3 (S (c .read-3 .last .k)) false A3 (c .in-Break-b .ensures tt .after))
+    did-lost 5 6 k0 (K (c .read-if .last .k)) s0 (S (c .read-if .last .k)) (c .from-residual-in-Break-b .result) _ (omega arith) (c .from-residual-in-Break-b .ensures .0) (after-then 4 1 k0 k3 (K (c .read-if .last .k)) s0 s3 (S (c .read-if .last .k)) false A3 (c .in-Break-b .ensures tt .after))
 
 pub returns-in-Break-x : need.returns-in-Break-x
 returns-in-Break-x g c =
@@ -147,9 +148,9 @@ returns-in-Break-x g c =
     let r3 = c .in-Continue-a .ensures tt in
     let x3 = r3 .gives _ refl in
     let A3 = after-then 3 1 k0 k2 k3 s0 s2 s3 true A2 (r3 .after) in
-    let k4 = K (c .read-3 .last .k) in
-    let s4 = S (c .read-3 .last .k) in
+    let k4 = K (c .read-if .last .k) in
+    let s4 = S (c .read-if .last .k) in
     let r4 = c .in-Continue-b .ensures tt in
     let x4 = r4 .gives _ refl in
     let A4 = after-then 4 1 k0 k3 k4 s0 s3 s4 true A3 (r4 .after) in
-    did-lost 6 6 k0 (K (c .read-4 .last .k)) s0 (S (c .read-4 .last .k)) (c .from-residual-in-Break-x .result) _ (omega arith) (c .from-residual-in-Break-x .ensures .0) (after-then 5 1 k0 k4 (K (c .read-4 .last .k)) s0 s4 (S (c .read-4 .last .k)) false A4 (c .in-Break-x .ensures tt .after))
+    did-lost 6 6 k0 (K (c .read-if-2 .last .k)) s0 (S (c .read-if-2 .last .k)) (c .from-residual-in-Break-x .result) _ (omega arith) (c .from-residual-in-Break-x .ensures .0) (after-then 5 1 k0 k4 (K (c .read-if-2 .last .k)) s0 s4 (S (c .read-if-2 .last .k)) false A4 (c .in-Break-x .ensures tt .after))
