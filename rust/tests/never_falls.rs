@@ -263,14 +263,14 @@ fn once_in_twenty() {
 
 #[test]
 fn once_in_five() {
-    for seed in 0..60 {
+    for seed in 0..300 {
         same(seed, 25, 5);
     }
 }
 
 #[test]
 fn once_in_three() {
-    for seed in 0..6 {
+    for seed in 0..60 {
         same(seed, 8, 3);
     }
 }
