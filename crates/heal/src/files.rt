@@ -30,12 +30,12 @@ impl Files {
     }
 
     pub fn turn<K: Desk>(&mut self, k: &mut K) -> Result<(), Down>
-        requires some { 4096 ≤ (kern k.old).left }
-        requires stands { (kern k.old).fell ≡ false }
-        requires sound { Sound (kern k.old) }
-        requires inv { Inv nothing (viewed (kern k.old)) (seen k.old) }
-        ensures seat { (kern k.new).at ≡ (kern k.old).at }
-        ensures turned { Turned (kern k.old) (seen k.old) (is_ok result) (kern k.new) (seen k.new) }
+        requires some { 4096 ≤ (K.kern k.old).left }
+        requires stands { (K.kern k.old).fell ≡ false }
+        requires sound { Sound (K.kern k.old) }
+        requires inv { Inv nothing (viewed (K.kern k.old)) (K.seen k.old) }
+        ensures seat { (K.kern k.new).at ≡ (K.kern k.old).at }
+        ensures turned { Turned (K.kern k.old) (K.seen k.old) (is_ok result) (K.kern k.new) (K.seen k.new) }
     {
         self.up = true;
         slots::turn(k)
@@ -51,10 +51,10 @@ pub struct Held {
 
 // What p's handle h is on, or nothing.
 fn find_held<K: Desk>(k: &mut K, p: u32, h: u32) -> Result<Option<Held>, Down>
-    requires able { Able 1 (kern k.old) (seen k.old) }
-    requires one { (kern k.old).at ≡ 1 }
+    requires able { Able 1 (K.kern k.old) (K.seen k.old) }
+    requires one { (K.kern k.old).at ≡ 1 }
     requires small { p < 64 }
-    ensures { Did 1 (kern k.old) (seen k.old) result (kern k.new) (seen k.new) (λ o. Holds p h (cells (kern k.old)) o × Exact (viewed (kern k.old)) (seen k.old) (kern k.new) (seen k.new)) }
+    ensures { Did 1 (K.kern k.old) (K.seen k.old) result (K.kern k.new) (K.seen k.new) (λ o. Holds p h (cells (K.kern k.old)) o × Exact (viewed (K.kern k.old)) (K.seen k.old) (K.kern k.new) (K.seen k.new)) }
 {
     if h >= 8 {
         return Ok(None);
@@ -71,10 +71,10 @@ fn find_held<K: Desk>(k: &mut K, p: u32, h: u32) -> Result<Option<Held>, Down>
 
 // The lowest empty handle of p.
 fn lowest_empty<K: Desk>(k: &mut K, p: u32) -> Result<Option<u32>, Down>
-    requires able { Able 8 (kern k.old) (seen k.old) }
-    requires one { (kern k.old).at ≡ 1 }
+    requires able { Able 8 (K.kern k.old) (K.seen k.old) }
+    requires one { (K.kern k.old).at ≡ 1 }
     requires small { p < 64 }
-    ensures { Did 8 (kern k.old) (seen k.old) result (kern k.new) (seen k.new) (λ o. Lowest p (cells (kern k.old)) o × Exact (viewed (kern k.old)) (seen k.old) (kern k.new) (seen k.new)) }
+    ensures { Did 8 (K.kern k.old) (K.seen k.old) result (K.kern k.new) (K.seen k.new) (λ o. Lowest p (cells (K.kern k.old)) o × Exact (viewed (K.kern k.old)) (K.seen k.old) (K.kern k.new) (K.seen k.new)) }
 {
     let mut e: u32 = 0;
     while e < 8 {
@@ -112,9 +112,9 @@ fn users_closed(writes: bool, users: u64) -> u64
 }
 
 pub fn open<K: Desk>(k: &mut K, p: u32, n: u32, w: bool) -> Result<Decision, Down>
-    requires able { Able 10 (kern k.old) (seen k.old) }
-    requires stand { Standing p (Call.Open n w) (viewed (kern k.old)) }
-    ensures { Did 10 (kern k.old) (seen k.old) result (kern k.new) (seen k.new) (λ d. Chosen p (Call.Open n w) d (viewed (kern k.new)) (seen k.new) × ((kern k.new).box ≡ (kern k.old).box)) }
+    requires able { Able 10 (K.kern k.old) (K.seen k.old) }
+    requires stand { Standing p (Call.Open n w) (viewed (K.kern k.old)) }
+    ensures { Did 10 (K.kern k.old) (K.seen k.old) result (K.kern k.new) (K.seen k.new) (λ d. Chosen p (Call.Open n w) d (viewed (K.kern k.new)) (K.seen k.new) × ((K.kern k.new).box ≡ (K.kern k.old).box)) }
 {
     if n >= 64 {
         return Ok(decisions::refuse(1));
@@ -181,9 +181,9 @@ fn hand_word(n: u32, w: bool) -> u64
 }
 
 pub fn close<K: Desk>(k: &mut K, p: u32, h: u32) -> Result<Decision, Down>
-    requires able { Able 2 (kern k.old) (seen k.old) }
-    requires stand { Standing p (Call.Close h) (viewed (kern k.old)) }
-    ensures { Did 2 (kern k.old) (seen k.old) result (kern k.new) (seen k.new) (λ d. Chosen p (Call.Close h) d (viewed (kern k.new)) (seen k.new) × ((kern k.new).box ≡ (kern k.old).box)) }
+    requires able { Able 2 (K.kern k.old) (K.seen k.old) }
+    requires stand { Standing p (Call.Close h) (viewed (K.kern k.old)) }
+    ensures { Did 2 (K.kern k.old) (K.seen k.old) result (K.kern k.new) (K.seen k.new) (λ d. Chosen p (Call.Close h) d (viewed (K.kern k.new)) (K.seen k.new) × ((K.kern k.new).box ≡ (K.kern k.old).box)) }
 {
     match find_held(k, p, h)? {
         None => Ok(decisions::refuse(4)),
@@ -201,9 +201,9 @@ pub fn close<K: Desk>(k: &mut K, p: u32, h: u32) -> Result<Decision, Down>
 }
 
 pub fn read<K: Desk>(k: &mut K, p: u32, h: u32, i: u32) -> Result<Decision, Down>
-    requires able { Able 3 (kern k.old) (seen k.old) }
-    requires stand { Standing p (Call.Read h i) (viewed (kern k.old)) }
-    ensures { Did 3 (kern k.old) (seen k.old) result (kern k.new) (seen k.new) (λ d. Chosen p (Call.Read h i) d (viewed (kern k.new)) (seen k.new) × ((kern k.new).box ≡ (kern k.old).box)) }
+    requires able { Able 3 (K.kern k.old) (K.seen k.old) }
+    requires stand { Standing p (Call.Read h i) (viewed (K.kern k.old)) }
+    ensures { Did 3 (K.kern k.old) (K.seen k.old) result (K.kern k.new) (K.seen k.new) (λ d. Chosen p (Call.Read h i) d (viewed (K.kern k.new)) (K.seen k.new) × ((K.kern k.new).box ≡ (K.kern k.old).box)) }
 {
     match find_held(k, p, h)? {
         None => Ok(decisions::refuse(4)),
@@ -243,9 +243,9 @@ fn is_past(size: u64, i: u32) -> bool
 }
 
 pub fn write<K: Desk>(k: &mut K, p: u32, h: u32, i: u32, x: u64) -> Result<Decision, Down>
-    requires able { Able 2 (kern k.old) (seen k.old) }
-    requires stand { Standing p (Call.Write h i x) (viewed (kern k.old)) }
-    ensures { Did 2 (kern k.old) (seen k.old) result (kern k.new) (seen k.new) (λ d. Chosen p (Call.Write h i x) d (viewed (kern k.new)) (seen k.new) × ((kern k.new).box ≡ (kern k.old).box)) }
+    requires able { Able 2 (K.kern k.old) (K.seen k.old) }
+    requires stand { Standing p (Call.Write h i x) (viewed (K.kern k.old)) }
+    ensures { Did 2 (K.kern k.old) (K.seen k.old) result (K.kern k.new) (K.seen k.new) (λ d. Chosen p (Call.Write h i x) d (viewed (K.kern k.new)) (K.seen k.new) × ((K.kern k.new).box ≡ (K.kern k.old).box)) }
 {
     match find_held(k, p, h)? {
         None => Ok(decisions::refuse(4)),
@@ -269,9 +269,9 @@ pub fn write<K: Desk>(k: &mut K, p: u32, h: u32, i: u32, x: u64) -> Result<Decis
 }
 
 pub fn remove<K: Desk>(k: &mut K, p: u32, n: u32) -> Result<Decision, Down>
-    requires able { Able 2 (kern k.old) (seen k.old) }
-    requires stand { Standing p (Call.Remove n) (viewed (kern k.old)) }
-    ensures { Did 2 (kern k.old) (seen k.old) result (kern k.new) (seen k.new) (λ d. Chosen p (Call.Remove n) d (viewed (kern k.new)) (seen k.new) × ((kern k.new).box ≡ (kern k.old).box)) }
+    requires able { Able 2 (K.kern k.old) (K.seen k.old) }
+    requires stand { Standing p (Call.Remove n) (viewed (K.kern k.old)) }
+    ensures { Did 2 (K.kern k.old) (K.seen k.old) result (K.kern k.new) (K.seen k.new) (λ d. Chosen p (Call.Remove n) d (viewed (K.kern k.new)) (K.seen k.new) × ((K.kern k.new).box ≡ (K.kern k.old).box)) }
 {
     if n >= 64 {
         return Ok(decisions::refuse(1));

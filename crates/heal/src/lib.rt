@@ -1,4 +1,6 @@
 // The kernel as two traits, what a server may ask of it and what no server sees; three servers; and the days of the house.
+#![tactic(auto)]
+
 ghost use Rattle.std.specs.Prelude.{◌≡◌, ℕ, ◌+◌, ◌*◌, ◌<◌, ◌≤◌, true, false, T, List, [], ◌∷◌, length, is_ok, Ok};
 ghost use Rattle.heal.specs.Kernel.{Kern, Event, Round, Does, Between, AtStart, at', counted, with_fell, has_room, cells_of, mine, sent, taken, kept, begun, stopped, answered, showed, answers, begins, stops, shows, first_of, key_at};
 ghost use Rattle.heal.specs.House.{Explained};
@@ -123,26 +125,26 @@ pub trait World: Desk {
     // Whose turn it is; who has had one, stands.
     // (Who notes what is seen in finite memory may say that there's no more room for a turn; then all is over.)
     fn seat(&mut self, s: u32) -> bool
-        requires { (kern self.old).fell ≡ false }
-        ensures { ((T result → kern self.new ≡ at' s (kern self.old))) × (seen self.new ≡ seen self.old) };
+        requires { (Self.kern self.old).fell ≡ false }
+        ensures { ((T result → Self.kern self.new ≡ at' s (Self.kern self.old))) × (Self.seen self.new ≡ Self.seen self.old) };
     // it has fallen, and another takes its place
     fn renew(&mut self)
-        requires { (kern self.old).fell ≡ true }
-        ensures { (kern self.new ≡ with_fell false (kern self.old)) × (seen self.new ≡ seen self.old) };
+        requires { (Self.kern self.old).fell ≡ true }
+        ensures { (Self.kern self.new ≡ with_fell false (Self.kern self.old)) × (Self.seen self.new ≡ Self.seen self.old) };
     // programs ask, keys are struck
     fn between(&mut self)
-        ensures { Between (kern self.old) (seen self.old) (kern self.new) (seen self.new) };
+        ensures { Between (Self.kern self.old) (Self.seen self.old) (Self.kern self.new) (Self.seen self.new) };
     // each server had a turn, and none fell
     fn round(&mut self) -> bool
-        requires { ((kern self.old).fell ≡ false) × (Explained can (Round ∷ seen self.old)) }
-        ensures { (kern self.new ≡ kern self.old) × ((T result → seen self.new ≡ Round ∷ seen self.old)) };
+        requires { ((Self.kern self.old).fell ≡ false) × (Explained can (Round ∷ Self.seen self.old)) }
+        ensures { (Self.kern self.new ≡ Self.kern self.old) × ((T result → Self.seen self.new ≡ Round ∷ Self.seen self.old)) };
 }
 
 // The main theorem: that this is proved. Whatever programs ask, whenever servers fall, and however often, all that is
 // seen can be explained by one machine that never fell.
 pub fn days<W: Desk + World>(w: &mut W, many: u64)
-    requires starts { AtStart (kern w.old) }
-    requires unseen { seen w.old ≡ [] }
+    requires starts { AtStart (W.kern w.old) }
+    requires unseen { W.seen w.old ≡ [] }
     requires few { many < 281474976710656 }
 {
     let mut p = Programs::new();

@@ -18,12 +18,12 @@ impl Programs {
     }
 
     pub fn turn<K: Desk>(&mut self, k: &mut K) -> Result<(), Down>
-        requires some { 4096 ≤ (kern k.old).left }
-        requires stands { (kern k.old).fell ≡ false }
-        requires sound { Sound (kern k.old) }
-        requires inv { Inv nothing (viewed (kern k.old)) (seen k.old) }
-        ensures seat { (kern k.new).at ≡ (kern k.old).at }
-        ensures turned { Turned (kern k.old) (seen k.old) (is_ok result) (kern k.new) (seen k.new) }
+        requires some { 4096 ≤ (K.kern k.old).left }
+        requires stands { (K.kern k.old).fell ≡ false }
+        requires sound { Sound (K.kern k.old) }
+        requires inv { Inv nothing (viewed (K.kern k.old)) (K.seen k.old) }
+        ensures seat { (K.kern k.new).at ≡ (K.kern k.old).at }
+        ensures turned { Turned (K.kern k.old) (K.seen k.old) (is_ok result) (K.kern k.new) (K.seen k.new) }
     {
         self.up = true;
         slots::turn(k)

@@ -27,12 +27,12 @@ impl Screen {
     }
 
     pub fn turn<K: Desk>(&mut self, k: &mut K) -> Result<(), Down>
-        requires some { 4096 ≤ (kern k.old).left }
-        requires stands { (kern k.old).fell ≡ false }
-        requires sound { Sound (kern k.old) }
-        requires inv { Inv nothing (viewed (kern k.old)) (seen k.old) }
-        ensures seat { (kern k.new).at ≡ (kern k.old).at }
-        ensures turned { Turned (kern k.old) (seen k.old) (is_ok result) (kern k.new) (seen k.new) }
+        requires some { 4096 ≤ (K.kern k.old).left }
+        requires stands { (K.kern k.old).fell ≡ false }
+        requires sound { Sound (K.kern k.old) }
+        requires inv { Inv nothing (viewed (K.kern k.old)) (K.seen k.old) }
+        ensures seat { (K.kern k.new).at ≡ (K.kern k.old).at }
+        ensures turned { Turned (K.kern k.old) (K.seen k.old) (is_ok result) (K.kern k.new) (K.seen k.new) }
     {
         self.up = true;
         slots::turn(k)
@@ -48,9 +48,9 @@ fn is_taken(owner: u64, p: u32) -> bool
 }
 
 pub fn take<K: Desk>(k: &mut K, p: u32) -> Result<Decision, Down>
-    requires able { Able 1 (kern k.old) (seen k.old) }
-    requires stand { Standing p (Call.Take) (viewed (kern k.old)) }
-    ensures { Did 1 (kern k.old) (seen k.old) result (kern k.new) (seen k.new) (λ d. Chosen p (Call.Take) d (viewed (kern k.new)) (seen k.new) × ((kern k.new).box ≡ (kern k.old).box)) }
+    requires able { Able 1 (K.kern k.old) (K.seen k.old) }
+    requires stand { Standing p (Call.Take) (viewed (K.kern k.old)) }
+    ensures { Did 1 (K.kern k.old) (K.seen k.old) result (K.kern k.new) (K.seen k.new) (λ d. Chosen p (Call.Take) d (viewed (K.kern k.new)) (K.seen k.new) × ((K.kern k.new).box ≡ (K.kern k.old).box)) }
 {
     let owner = asks::read(k, OWNER)?;
     if is_taken(owner, p) {
@@ -60,9 +60,9 @@ pub fn take<K: Desk>(k: &mut K, p: u32) -> Result<Decision, Down>
 }
 
 pub fn leave<K: Desk>(k: &mut K, p: u32) -> Result<Decision, Down>
-    requires able { Able 1 (kern k.old) (seen k.old) }
-    requires stand { Standing p (Call.Leave) (viewed (kern k.old)) }
-    ensures { Did 1 (kern k.old) (seen k.old) result (kern k.new) (seen k.new) (λ d. Chosen p (Call.Leave) d (viewed (kern k.new)) (seen k.new) × ((kern k.new).box ≡ (kern k.old).box)) }
+    requires able { Able 1 (K.kern k.old) (K.seen k.old) }
+    requires stand { Standing p (Call.Leave) (viewed (K.kern k.old)) }
+    ensures { Did 1 (K.kern k.old) (K.seen k.old) result (K.kern k.new) (K.seen k.new) (λ d. Chosen p (Call.Leave) d (viewed (K.kern k.new)) (K.seen k.new) × ((K.kern k.new).box ≡ (K.kern k.old).box)) }
 {
     let owner = asks::read(k, OWNER)?;
     if owner != p as u64 {
@@ -74,9 +74,9 @@ pub fn leave<K: Desk>(k: &mut K, p: u32) -> Result<Decision, Down>
 // The moment is the showing itself; the cells count the word afterwards. Fallen over in between, it's shown again at the same
 // place, which does nothing.
 pub fn say<K: Desk>(k: &mut K, p: u32, x: u64) -> Result<Decision, Down>
-    requires able { Able 3 (kern k.old) (seen k.old) }
-    requires stand { Standing p (Call.Say x) (viewed (kern k.old)) }
-    ensures { Did 3 (kern k.old) (seen k.old) result (kern k.new) (seen k.new) (λ d. Chosen p (Call.Say x) d (viewed (kern k.new)) (seen k.new) × ((kern k.new).box ≡ (kern k.old).box)) }
+    requires able { Able 3 (K.kern k.old) (K.seen k.old) }
+    requires stand { Standing p (Call.Say x) (viewed (K.kern k.old)) }
+    ensures { Did 3 (K.kern k.old) (K.seen k.old) result (K.kern k.new) (K.seen k.new) (λ d. Chosen p (Call.Say x) d (viewed (K.kern k.new)) (K.seen k.new) × ((K.kern k.new).box ≡ (K.kern k.old).box)) }
 {
     let owner = asks::read(k, OWNER)?;
     if owner != p as u64 {
@@ -88,9 +88,9 @@ pub fn say<K: Desk>(k: &mut K, p: u32, x: u64) -> Result<Decision, Down>
 }
 
 pub fn hear<K: Desk>(k: &mut K, p: u32) -> Result<Decision, Down>
-    requires able { Able 3 (kern k.old) (seen k.old) }
-    requires stand { Standing p (Call.Hear) (viewed (kern k.old)) }
-    ensures { Did 3 (kern k.old) (seen k.old) result (kern k.new) (seen k.new) (λ d. Chosen p (Call.Hear) d (viewed (kern k.new)) (seen k.new) × ((kern k.new).box ≡ (kern k.old).box)) }
+    requires able { Able 3 (K.kern k.old) (K.seen k.old) }
+    requires stand { Standing p (Call.Hear) (viewed (K.kern k.old)) }
+    ensures { Did 3 (K.kern k.old) (K.seen k.old) result (K.kern k.new) (K.seen k.new) (λ d. Chosen p (Call.Hear) d (viewed (K.kern k.new)) (K.seen k.new) × ((K.kern k.new).box ≡ (K.kern k.old).box)) }
 {
     let owner = asks::read(k, OWNER)?;
     if owner != p as u64 {

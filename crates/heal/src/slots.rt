@@ -42,9 +42,9 @@ const OWING: u32 = 64;
 
 // the first slot after p that the sweep has to look at, or 0
 fn next_ready<K: Desk>(k: &mut K, p: u32) -> Result<u32, Down>
-    requires able { Able 1 (kern k.old) (seen k.old) }
+    requires able { Able 1 (K.kern k.old) (K.seen k.old) }
     requires small { p < 64 }
-    ensures { Did 1 (kern k.old) (seen k.old) result (kern k.new) (seen k.new) (λ (w : ℕ). FirstFrom (p + 1) (ready (cells (kern k.old))) w × Exact (viewed (kern k.old)) (seen k.old) (kern k.new) (seen k.new)) }
+    ensures { Did 1 (K.kern k.old) (K.seen k.old) result (K.kern k.new) (K.seen k.new) (λ (w : ℕ). FirstFrom (p + 1) (ready (cells (K.kern k.old))) w × Exact (viewed (K.kern k.old)) (K.seen k.old) (K.kern k.new) (K.seen k.new)) }
 {
     let bits = asks::read(k, READY)?;
     Ok(ReadySet { bits }.first_from(p + 1))
@@ -52,9 +52,9 @@ fn next_ready<K: Desk>(k: &mut K, p: u32) -> Result<u32, Down>
 
 // p has a slot that the sweep must look at
 fn add_ready<K: Desk>(k: &mut K, p: u32) -> Result<(), Down>
-    requires able { Able 2 (kern k.old) (seen k.old) }
+    requires able { Able 2 (K.kern k.old) (K.seen k.old) }
     requires small { p < 64 }
-    ensures { Did 2 (kern k.old) (seen k.old) result (kern k.new) (seen k.new) (λ _. (m : ℕ) × T (has p m) × Exact (kept 36 m (viewed (kern k.old))) (seen k.old) (kern k.new) (seen k.new)) }
+    ensures { Did 2 (K.kern k.old) (K.seen k.old) result (K.kern k.new) (K.seen k.new) (λ _. (m : ℕ) × T (has p m) × Exact (kept 36 m (viewed (K.kern k.old))) (K.seen k.old) (K.kern k.new) (K.seen k.new)) }
 {
     let bits = asks::read(k, READY)?;
     asks::write(k, READY, ReadySet { bits }.insert(p).bits)
@@ -62,11 +62,11 @@ fn add_ready<K: Desk>(k: &mut K, p: u32) -> Result<(), Down>
 
 // the words of the call, and then the one put that gives them their meaning
 fn store<K: Desk>(k: &mut K, p: u32, number: u64, call: Call) -> Result<(), Down>
-    requires able { Able 5 (kern k.old) (seen k.old) }
+    requires able { Able 5 (K.kern k.old) (K.seen k.old) }
     requires small { p < 64 }
     requires fits { number + 1 < 18446744073709551616 }
-    requires storing { Storing p number call ((kern k.old).box (kern k.old).at) (cells (kern k.old)) }
-    ensures { Did 5 (kern k.old) (seen k.old) result (kern k.new) (seen k.new) (λ _. Stored p number (kern k.old) (kern k.new)) }
+    requires storing { Storing p number call ((K.kern k.old).box (K.kern k.old).at) (cells (K.kern k.old)) }
+    ensures { Did 5 (K.kern k.old) (K.seen k.old) result (K.kern k.new) (K.seen k.new) (λ _. Stored p number (K.kern k.old) (K.kern k.new)) }
 {
     let w = codec::encode_call(call);
     asks::write(k, CALL_KIND + p, w.kind)?;
@@ -78,12 +78,12 @@ fn store<K: Desk>(k: &mut K, p: u32, number: u64, call: Call) -> Result<(), Down
 
 // the first message of the box goes into its slot
 fn accept<K: Desk>(k: &mut K, p: u32, number: u64, call: Call) -> Result<(), Down>
-    requires able { Able 9 (kern k.old) (seen k.old) }
+    requires able { Able 9 (K.kern k.old) (K.seen k.old) }
     requires small { p < 64 }
     requires fits { number + 1 < 18446744073709551616 }
-    requires head { Heads p number call (kern k.old) }
-    requires calm { sweep (cells (kern k.old)) < 64 }
-    ensures { Did 9 (kern k.old) (seen k.old) result (kern k.new) (seen k.new) (λ _. Fewer (kern k.old) (kern k.new)) }
+    requires head { Heads p number call (K.kern k.old) }
+    requires calm { sweep (cells (K.kern k.old)) < 64 }
+    ensures { Did 9 (K.kern k.old) (K.seen k.old) result (K.kern k.new) (K.seen k.new) (λ _. Fewer (K.kern k.old) (K.kern k.new)) }
 {
     let last = asks::read(k, LAST + p)?;
     if number < last {
@@ -96,9 +96,9 @@ fn accept<K: Desk>(k: &mut K, p: u32, number: u64, call: Call) -> Result<(), Dow
 
 // the answer that is owed is told, and the sweep goes on
 fn tell<K: Desk>(k: &mut K, p: u32) -> Result<(), Down>
-    requires able { Able 7 (kern k.old) (seen k.old) }
-    requires owes { sweep (cells (kern k.old)) ≡ 64 + p }
-    ensures { Did 7 (kern k.old) (seen k.old) result (kern k.new) (seen k.new) (λ _. Calm (kern k.old) (kern k.new)) }
+    requires able { Able 7 (K.kern k.old) (K.seen k.old) }
+    requires owes { sweep (cells (K.kern k.old)) ≡ 64 + p }
+    ensures { Did 7 (K.kern k.old) (K.seen k.old) result (K.kern k.new) (K.seen k.new) (λ _. Calm (K.kern k.old) (K.kern k.new)) }
 {
     let a = owed_answer(k)?;
     let n = asks::read(k, DONE + p)?;
@@ -109,8 +109,8 @@ fn tell<K: Desk>(k: &mut K, p: u32) -> Result<(), Down>
 
 // the answer that is owed
 fn owed_answer<K: Desk>(k: &mut K) -> Result<Answer, Down>
-    requires able { Able 3 (kern k.old) (seen k.old) }
-    ensures { Did 3 (kern k.old) (seen k.old) result (kern k.new) (seen k.new) (λ a. (a ≡ owed (cells (kern k.old))) × Exact (viewed (kern k.old)) (seen k.old) (kern k.new) (seen k.new)) }
+    requires able { Able 3 (K.kern k.old) (K.seen k.old) }
+    ensures { Did 3 (K.kern k.old) (K.seen k.old) result (K.kern k.new) (K.seen k.new) (λ a. (a ≡ owed (cells (K.kern k.old))) × Exact (viewed (K.kern k.old)) (K.seen k.old) (K.kern k.new) (K.seen k.new)) }
 {
     let kind = asks::read(k, OWED_KIND)?;
     let a = asks::read(k, OWED_A)?;
@@ -120,9 +120,9 @@ fn owed_answer<K: Desk>(k: &mut K) -> Result<Answer, Down>
 
 // the words of the answer that will be owed; only those that its kind has
 fn write_owed<K: Desk>(k: &mut K, a: Answer) -> Result<(), Down>
-    requires able { Able 3 (kern k.old) (seen k.old) }
-    requires calm { sweep (cells (kern k.old)) < 64 }
-    ensures { Did 3 (kern k.old) (seen k.old) result (kern k.new) (seen k.new) (λ _. Noted a (viewed (kern k.old)) (seen k.old) (viewed (kern k.new)) (seen k.new)) }
+    requires able { Able 3 (K.kern k.old) (K.seen k.old) }
+    requires calm { sweep (cells (K.kern k.old)) < 64 }
+    ensures { Did 3 (K.kern k.old) (K.seen k.old) result (K.kern k.new) (K.seen k.new) (λ _. Noted a (viewed (K.kern k.old)) (K.seen k.old) (viewed (K.kern k.new)) (K.seen k.new)) }
 {
     let w = codec::encode_answer(a);
     asks::write(k, OWED_KIND, w.kind)?;
@@ -141,9 +141,9 @@ fn write_owed<K: Desk>(k: &mut K, a: Answer) -> Result<(), Down>
 
 // the call at the sweep has its moment: the answer's words first, which nobody reads yet, and then all at once
 fn finish<K: Desk>(k: &mut K, p: u32, a: Answer, t: Transaction) -> Result<(), Down>
-    requires able { Able 54 (kern k.old) (seen k.old) }
-    requires decided { (c : Call) × Standing p c (viewed (kern k.old)) × Decided p c a (pairs_of t) (viewed (kern k.old)) (seen k.old) }
-    ensures { Did 54 (kern k.old) (seen k.old) result (kern k.new) (seen k.new) (λ _. Finished p (kern k.old) (seen k.old) (kern k.new) (seen k.new)) }
+    requires able { Able 54 (K.kern k.old) (K.seen k.old) }
+    requires decided { (c : Call) × Standing p c (viewed (K.kern k.old)) × Decided p c a (pairs_of t) (viewed (K.kern k.old)) (K.seen k.old) }
+    ensures { Did 54 (K.kern k.old) (K.seen k.old) result (K.kern k.new) (K.seen k.new) (λ _. Finished p (K.kern k.old) (K.seen k.old) (K.kern k.new) (K.seen k.new)) }
 {
     write_owed(k, a)?;
     let n = asks::read(k, LAST + p)?;
@@ -155,9 +155,9 @@ fn finish<K: Desk>(k: &mut K, p: u32, a: Answer, t: Transaction) -> Result<(), D
 
 // the call at the sweep waits for others: the sweep goes on
 fn pass<K: Desk>(k: &mut K, p: u32) -> Result<(), Down>
-    requires able { Able 2 (kern k.old) (seen k.old) }
-    requires waits { (c : Call) × Chosen p c Decision.Pass (viewed (kern k.old)) (seen k.old) }
-    ensures { Did 2 (kern k.old) (seen k.old) result (kern k.new) (seen k.new) (λ _. Stepped (kern k.old) (seen k.old) (kern k.new) (seen k.new)) }
+    requires able { Able 2 (K.kern k.old) (K.seen k.old) }
+    requires waits { (c : Call) × Chosen p c Decision.Pass (viewed (K.kern k.old)) (K.seen k.old) }
+    ensures { Did 2 (K.kern k.old) (K.seen k.old) result (K.kern k.new) (K.seen k.new) (λ _. Stepped (K.kern k.old) (K.seen k.old) (K.kern k.new) (K.seen k.new)) }
 {
     let w = next_ready(k, p)?;
     asks::write(k, SWEEP, w as u64)
@@ -165,9 +165,9 @@ fn pass<K: Desk>(k: &mut K, p: u32) -> Result<(), Down>
 
 // what the call at the sweep comes to
 fn decide<K: Desk>(k: &mut K, p: u32, call: Call) -> Result<Decision, Down>
-    requires able { Able 10 (kern k.old) (seen k.old) }
-    requires stand { Standing p call (viewed (kern k.old)) }
-    ensures { Did 10 (kern k.old) (seen k.old) result (kern k.new) (seen k.new) (λ d. Chosen p call d (viewed (kern k.new)) (seen k.new) × ((kern k.new).box ≡ (kern k.old).box)) }
+    requires able { Able 10 (K.kern k.old) (K.seen k.old) }
+    requires stand { Standing p call (viewed (K.kern k.old)) }
+    ensures { Did 10 (K.kern k.old) (K.seen k.old) result (K.kern k.new) (K.seen k.new) (λ d. Chosen p call d (viewed (K.kern k.new)) (K.seen k.new) × ((K.kern k.new).box ≡ (K.kern k.old).box)) }
 {
     match call {
         Call::Open(n, w) => files::open(k, p, n, w),
@@ -188,9 +188,9 @@ fn decide<K: Desk>(k: &mut K, p: u32, call: Call) -> Result<Decision, Down>
 
 // a call at the sweep: it's finished and told, or passed over
 fn serve<K: Desk>(k: &mut K, p: u32, call: Call) -> Result<(), Down>
-    requires able { Able 71 (kern k.old) (seen k.old) }
-    requires stand { Standing p call (viewed (kern k.old)) }
-    ensures { Did 71 (kern k.old) (seen k.old) result (kern k.new) (seen k.new) (λ _. Stepped (kern k.old) (seen k.old) (kern k.new) (seen k.new)) }
+    requires able { Able 71 (K.kern k.old) (K.seen k.old) }
+    requires stand { Standing p call (viewed (K.kern k.old)) }
+    ensures { Did 71 (K.kern k.old) (K.seen k.old) result (K.kern k.new) (K.seen k.new) (λ _. Stepped (K.kern k.old) (K.seen k.old) (K.kern k.new) (K.seen k.new)) }
 {
     match decide(k, p, call)? {
         Decision::Finish(a, t) => {
@@ -203,11 +203,11 @@ fn serve<K: Desk>(k: &mut K, p: u32, call: Call) -> Result<(), Down>
 
 // there is no call in the slot
 fn clear<K: Desk>(k: &mut K, p: u32) -> Result<(), Down>
-    requires able { Able 4 (kern k.old) (seen k.old) }
-    requires at { (sweep (cells (kern k.old)) ≡ p) × ((0 < p) × (p < 64)) }
-    requires vacant { done (cells (kern k.old)) p ≡ last (cells (kern k.old)) p }
-    requires empty { (kern k.old).box (kern k.old).at ≡ [] }
-    ensures { Did 4 (kern k.old) (seen k.old) result (kern k.new) (seen k.new) (λ _. Stepped (kern k.old) (seen k.old) (kern k.new) (seen k.new)) }
+    requires able { Able 4 (K.kern k.old) (K.seen k.old) }
+    requires at { (sweep (cells (K.kern k.old)) ≡ p) × ((0 < p) × (p < 64)) }
+    requires vacant { done (cells (K.kern k.old)) p ≡ last (cells (K.kern k.old)) p }
+    requires empty { (K.kern k.old).box (K.kern k.old).at ≡ [] }
+    ensures { Did 4 (K.kern k.old) (K.seen k.old) result (K.kern k.new) (K.seen k.new) (λ _. Stepped (K.kern k.old) (K.seen k.old) (K.kern k.new) (K.seen k.new)) }
 {
     let bits = asks::read(k, READY)?;
     asks::write(k, READY, ReadySet { bits }.remove(p).bits)?;
@@ -217,9 +217,9 @@ fn clear<K: Desk>(k: &mut K, p: u32) -> Result<(), Down>
 
 // whether there's a call in p's slot
 fn is_full<K: Desk>(k: &mut K, p: u32) -> Result<bool, Down>
-    requires able { Able 2 (kern k.old) (seen k.old) }
+    requires able { Able 2 (K.kern k.old) (K.seen k.old) }
     requires small { p < 64 }
-    ensures { Did 2 (kern k.old) (seen k.old) result (kern k.new) (seen k.new) (λ (b : Bool). (b ≡ true → done (cells (kern k.old)) p < last (cells (kern k.old)) p) × (b ≡ false → done (cells (kern k.old)) p ≡ last (cells (kern k.old)) p) × Exact (viewed (kern k.old)) (seen k.old) (kern k.new) (seen k.new)) }
+    ensures { Did 2 (K.kern k.old) (K.seen k.old) result (K.kern k.new) (K.seen k.new) (λ (b : Bool). (b ≡ true → done (cells (K.kern k.old)) p < last (cells (K.kern k.old)) p) × (b ≡ false → done (cells (K.kern k.old)) p ≡ last (cells (K.kern k.old)) p) × Exact (viewed (K.kern k.old)) (K.seen k.old) (K.kern k.new) (K.seen k.new)) }
 {
     let last = asks::read(k, LAST + p)?;
     let done = asks::read(k, DONE + p)?;
@@ -228,10 +228,10 @@ fn is_full<K: Desk>(k: &mut K, p: u32) -> Result<bool, Down>
 
 // one step of the sweep; false: it rests
 fn step<K: Desk>(k: &mut K) -> Result<bool, Down>
-    requires able { Able 90 (kern k.old) (seen k.old) }
-    requires calm { sweep (cells (kern k.old)) < 64 }
-    requires empty { (kern k.old).box (kern k.old).at ≡ [] }
-    ensures { Did 90 (kern k.old) (seen k.old) result (kern k.new) (seen k.new) (StepOr (kern k.old) (seen k.old) (kern k.new) (seen k.new)) }
+    requires able { Able 90 (K.kern k.old) (K.seen k.old) }
+    requires calm { sweep (cells (K.kern k.old)) < 64 }
+    requires empty { (K.kern k.old).box (K.kern k.old).at ≡ [] }
+    ensures { Did 90 (K.kern k.old) (K.seen k.old) result (K.kern k.new) (K.seen k.new) (StepOr (K.kern k.old) (K.seen k.old) (K.kern k.new) (K.seen k.new)) }
 {
     let at = asks::read(k, SWEEP)?;
     if at == 0 {
@@ -252,10 +252,10 @@ fn step<K: Desk>(k: &mut K) -> Result<bool, Down>
 
 // a sweep begins, if the last is over
 fn begin<K: Desk>(k: &mut K) -> Result<(), Down>
-    requires able { Able 2 (kern k.old) (seen k.old) }
-    requires rests { sweep (cells (kern k.old)) ≡ 0 }
-    requires empty { (kern k.old).box (kern k.old).at ≡ [] }
-    ensures { Did 2 (kern k.old) (seen k.old) result (kern k.new) (seen k.new) (λ _. Calm (kern k.old) (kern k.new) × Begun (kern k.old) (seen k.old) (kern k.new) (seen k.new)) }
+    requires able { Able 2 (K.kern k.old) (K.seen k.old) }
+    requires rests { sweep (cells (K.kern k.old)) ≡ 0 }
+    requires empty { (K.kern k.old).box (K.kern k.old).at ≡ [] }
+    ensures { Did 2 (K.kern k.old) (K.seen k.old) result (K.kern k.new) (K.seen k.new) (λ _. Calm (K.kern k.old) (K.kern k.new) × Begun (K.kern k.old) (K.seen k.old) (K.kern k.new) (K.seen k.new)) }
 {
     let w = next_ready(k, 0)?;
     asks::write(k, SWEEP, w as u64)
@@ -263,9 +263,9 @@ fn begin<K: Desk>(k: &mut K) -> Result<(), Down>
 
 // the first message, if there's one, goes into its slot
 fn drain_one<K: Desk>(k: &mut K) -> Result<bool, Down>
-    requires able { Able 10 (kern k.old) (seen k.old) }
-    requires calm { sweep (cells (kern k.old)) < 64 }
-    ensures { Did 10 (kern k.old) (seen k.old) result (kern k.new) (seen k.new) (OneLess (kern k.old) (kern k.new)) }
+    requires able { Able 10 (K.kern k.old) (K.seen k.old) }
+    requires calm { sweep (cells (K.kern k.old)) < 64 }
+    ensures { Did 10 (K.kern k.old) (K.seen k.old) result (K.kern k.new) (K.seen k.new) (OneLess (K.kern k.old) (K.kern k.new)) }
 {
     match asks::peek(k)? {
         None => Ok(false),
@@ -287,9 +287,9 @@ fn drain_one<K: Desk>(k: &mut K) -> Result<bool, Down>
 
 // the whole box: at most a call of each program
 fn drain<K: Desk>(k: &mut K) -> Result<(), Down>
-    requires able { Able 700 (kern k.old) (seen k.old) }
-    requires calm { sweep (cells (kern k.old)) < 64 }
-    ensures { Did 700 (kern k.old) (seen k.old) result (kern k.new) (seen k.new) (λ _. Drained (kern k.old) (kern k.new)) }
+    requires able { Able 700 (K.kern k.old) (K.seen k.old) }
+    requires calm { sweep (cells (K.kern k.old)) < 64 }
+    ensures { Did 700 (K.kern k.old) (K.seen k.old) result (K.kern k.new) (K.seen k.new) (λ _. Drained (K.kern k.old) (K.kern k.new)) }
 {
     let mut n: u32 = 0;
     while n < 70 {
@@ -303,10 +303,10 @@ fn drain<K: Desk>(k: &mut K) -> Result<(), Down>
 
 // steps until the sweep rests, but not too many
 fn work<K: Desk>(k: &mut K) -> Result<(), Down>
-    requires able { Able 2880 (kern k.old) (seen k.old) }
-    requires calm { sweep (cells (kern k.old)) < 64 }
-    requires empty { (kern k.old).box (kern k.old).at ≡ [] }
-    ensures { Did 2880 (kern k.old) (seen k.old) result (kern k.new) (seen k.new) (λ _. Worked 32 (kern k.old) (seen k.old) (kern k.new) (seen k.new)) }
+    requires able { Able 2880 (K.kern k.old) (K.seen k.old) }
+    requires calm { sweep (cells (K.kern k.old)) < 64 }
+    requires empty { (K.kern k.old).box (K.kern k.old).at ≡ [] }
+    ensures { Did 2880 (K.kern k.old) (K.seen k.old) result (K.kern k.new) (K.seen k.new) (λ _. Worked 32 (K.kern k.old) (K.seen k.old) (K.kern k.new) (K.seen k.new)) }
 {
     let mut n: u32 = 0;
     while n < 32 {
@@ -320,8 +320,8 @@ fn work<K: Desk>(k: &mut K) -> Result<(), Down>
 
 // what is owed is told; hands back where the sweep is then
 fn settle<K: Desk>(k: &mut K) -> Result<u64, Down>
-    requires able { Able 9 (kern k.old) (seen k.old) }
-    ensures { Did 9 (kern k.old) (seen k.old) result (kern k.new) (seen k.new) (λ (at : ℕ). (at ≡ sweep (cells (kern k.new))) × Calm (kern k.old) (kern k.new)) }
+    requires able { Able 9 (K.kern k.old) (K.seen k.old) }
+    ensures { Did 9 (K.kern k.old) (K.seen k.old) result (K.kern k.new) (K.seen k.new) (λ (at : ℕ). (at ≡ sweep (cells (K.kern k.new))) × Calm (K.kern k.old) (K.kern k.new)) }
 {
     let at = asks::read(k, SWEEP)?;
     if at < 64 {
@@ -333,11 +333,11 @@ fn settle<K: Desk>(k: &mut K) -> Result<u64, Down>
 
 // a sweep begins, if none is under way
 fn begin_at_rest<K: Desk>(k: &mut K, at: u64) -> Result<(), Down>
-    requires able { Able 2 (kern k.old) (seen k.old) }
-    requires here { at ≡ sweep (cells (kern k.old)) }
+    requires able { Able 2 (K.kern k.old) (K.seen k.old) }
+    requires here { at ≡ sweep (cells (K.kern k.old)) }
     requires calm { at < 64 }
-    requires empty { (kern k.old).box (kern k.old).at ≡ [] }
-    ensures { Did 2 (kern k.old) (seen k.old) result (kern k.new) (seen k.new) (λ _. Calm (kern k.old) (kern k.new) × (sweep (cells (kern k.old)) ≡ 0 → Begun (kern k.old) (seen k.old) (kern k.new) (seen k.new))) }
+    requires empty { (K.kern k.old).box (K.kern k.old).at ≡ [] }
+    ensures { Did 2 (K.kern k.old) (K.seen k.old) result (K.kern k.new) (K.seen k.new) (λ _. Calm (K.kern k.old) (K.kern k.new) × (sweep (cells (K.kern k.old)) ≡ 0 → Begun (K.kern k.old) (K.seen k.old) (K.kern k.new) (K.seen k.new))) }
 {
     if at == 0 {
         return begin(k);
@@ -347,10 +347,10 @@ fn begin_at_rest<K: Desk>(k: &mut K, at: u64) -> Result<(), Down>
 
 // the same, where it isn't known where the sweep is
 fn go_on<K: Desk>(k: &mut K) -> Result<(), Down>
-    requires able { Able 3 (kern k.old) (seen k.old) }
-    requires calm { sweep (cells (kern k.old)) < 64 }
-    requires empty { (kern k.old).box (kern k.old).at ≡ [] }
-    ensures { Did 3 (kern k.old) (seen k.old) result (kern k.new) (seen k.new) (λ _. Calm (kern k.old) (kern k.new) × (sweep (cells (kern k.old)) ≡ 0 → Begun (kern k.old) (seen k.old) (kern k.new) (seen k.new))) }
+    requires able { Able 3 (K.kern k.old) (K.seen k.old) }
+    requires calm { sweep (cells (K.kern k.old)) < 64 }
+    requires empty { (K.kern k.old).box (K.kern k.old).at ≡ [] }
+    ensures { Did 3 (K.kern k.old) (K.seen k.old) result (K.kern k.new) (K.seen k.new) (λ _. Calm (K.kern k.old) (K.kern k.new) × (sweep (cells (K.kern k.old)) ≡ 0 → Begun (K.kern k.old) (K.seen k.old) (K.kern k.new) (K.seen k.new))) }
 {
     let at = asks::read(k, SWEEP)?;
     begin_at_rest(k, at)
@@ -358,11 +358,11 @@ fn go_on<K: Desk>(k: &mut K) -> Result<(), Down>
 
 // A turn: what is owed is told, the box is emptied, and steps of the sweep are made.
 pub fn turn<K: Desk>(k: &mut K) -> Result<(), Down>
-    requires some { 4096 ≤ (kern k.old).left }
-    requires stands { (kern k.old).fell ≡ false }
-    requires sound { Sound (kern k.old) }
-    requires inv { Inv nothing (viewed (kern k.old)) (seen k.old) }
-    ensures { Turned (kern k.old) (seen k.old) (is_ok result) (kern k.new) (seen k.new) }
+    requires some { 4096 ≤ (K.kern k.old).left }
+    requires stands { (K.kern k.old).fell ≡ false }
+    requires sound { Sound (K.kern k.old) }
+    requires inv { Inv nothing (viewed (K.kern k.old)) (K.seen k.old) }
+    ensures { Turned (K.kern k.old) (K.seen k.old) (is_ok result) (K.kern k.new) (K.seen k.new) }
 {
     journal::recover(k)?;
     let at = settle(k)?;
@@ -374,9 +374,9 @@ pub fn turn<K: Desk>(k: &mut K) -> Result<(), Down>
 
 // a word of a call, if calls of its kind have it: each thing that isn't asked is one that can't be fallen over
 fn read_if<K: Desk>(k: &mut K, cell: u32, has: bool) -> Result<u64, Down>
-    requires able { Able 1 (kern k.old) (seen k.old) }
+    requires able { Able 1 (K.kern k.old) (K.seen k.old) }
     requires small { cell < 512 }
-    ensures { Did 1 (kern k.old) (seen k.old) result (kern k.new) (seen k.new) (λ (x : ℕ). (x ≡ (if has then cells (kern k.old) cell else 0)) × Exact (viewed (kern k.old)) (seen k.old) (kern k.new) (seen k.new)) }
+    ensures { Did 1 (K.kern k.old) (K.seen k.old) result (K.kern k.new) (K.seen k.new) (λ (x : ℕ). (x ≡ (if has then cells (K.kern k.old) cell else 0)) × Exact (viewed (K.kern k.old)) (K.seen k.old) (K.kern k.new) (K.seen k.new)) }
 {
     if has {
         return asks::read(k, cell);
@@ -386,9 +386,9 @@ fn read_if<K: Desk>(k: &mut K, cell: u32, has: bool) -> Result<u64, Down>
 
 // the call in p's slot
 fn slot<K: Desk>(k: &mut K, p: u32) -> Result<Option<Call>, Down>
-    requires able { Able 6 (kern k.old) (seen k.old) }
+    requires able { Able 6 (K.kern k.old) (K.seen k.old) }
     requires small { p < 64 }
-    ensures { Did 6 (kern k.old) (seen k.old) result (kern k.new) (seen k.new) (λ o. InSlot p (kern k.old) o × Exact (viewed (kern k.old)) (seen k.old) (kern k.new) (seen k.new)) }
+    ensures { Did 6 (K.kern k.old) (K.seen k.old) result (K.kern k.new) (K.seen k.new) (λ o. InSlot p (K.kern k.old) o × Exact (viewed (K.kern k.old)) (K.seen k.old) (K.kern k.new) (K.seen k.new)) }
 {
     if !is_full(k, p)? {
         return Ok(None);

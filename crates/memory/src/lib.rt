@@ -1,4 +1,6 @@
 // A kernel in memory: it falls only where its plan says, and between turns it does what the lines of a script say.
+#![tactic(auto)]
+
 mod asks;
 mod lines;
 mod machine;

@@ -1,4 +1,6 @@
 // A script is played by the house's own days, on memory that is lent, and what happens is printed.
+#![tactic(auto)]
+
 ghost use Rattle.std.specs.Prelude.{◌≡◌, ◌<◌, ◌≤◌, true, false, length};
 ghost use Rattle.script.specs.Pages.{size};
 

@@ -1,4 +1,6 @@
 // The lines of a script, and the lines that are printed.
+#![tactic(auto)]
+
 ghost use Rattle.std.specs.Prelude.{◌≡◌, MatchOption, ◌≢◌};
 ghost use Rattle.script.specs.Text.{text_of, Valid};
 ghost use Rattle.script.specs.Law.{ComesBack};

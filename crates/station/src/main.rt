@@ -1,4 +1,6 @@
 // Plays the script that comes on standard input, and writes what happens to standard output.
+#![tactic(auto)]
+
 ghost use Rattle.std.specs.Prelude.{◌≤◌, length, IfOk};
 
 use std::io::{Read, Write};

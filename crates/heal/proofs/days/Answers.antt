@@ -3,7 +3,7 @@ use Rattle.std.proofs.Common.{true}
 use Rattle.heal.specs.Invariant.{nothing}
 use Rattle.heal.proofs.Rounds.{one, two, few0, few1, few2, good_start, good_loop, good_between, seated, Ended, ended, ended_ok, ended_err, round_needs, again_round, again_not}
 use Rattle.heal.proofs.days.Goals as goal
-use Rattle.heal.proofs.days.Goals.{in-Err, in-default, in-Err-turn, in-default-turn, in-Err-turn-2, in-default-turn-2, else-whole-via-then-whole+else-not-round, else-whole-via-else-whole}
+use Rattle.heal.proofs.days.Goals.{in-Err, in_default, in-Err-turn, in_default-turn, in-Err-turn-2, in_default-turn-2, else-whole-via-then-whole+else-not-round, else-whole-via-else-whole}
 
 pub loop-t-init : goal.loop-t-init
 loop-t-init g c = good_start (g.W.Desk.kern c.args.w.now) (g.W.Desk.seen c.args.w.now) c.requires.starts c.requires.unseen
@@ -30,7 +30,7 @@ seat-requires-in-loop-t g c =
     let e1 : Ended (K c.seat.new.self) (S c.seat.new.self) (K c.match-turn.w) (S c.match-turn.w) true c.match-turn.whole =
     elim c.match-turn.branch [
       | in-Err w ↦ ended_err K S c.turn.new.k w.renew.new.self c.match-turn.w w.in-Err.ensures.turned w.renew.ensures w.w-is w.whole-is
-      | in-default w ↦ ended_ok K S c.turn.new.k c.match-turn.w w.in-default.ensures.turned w.w-is w.whole-is
+      | in_default w ↦ ended_ok K S c.turn.new.k c.match-turn.w w.in_default.ensures.turned w.w-is w.whole-is
     ] in
     let g1 = ended nothing 0 s1 e1 in
     let b2 = good_between one few1 c.match-turn.whole g1 c.between-in-loop-t.ensures in
@@ -44,7 +44,7 @@ turn-requires-in-loop-t g c =
     let e1 : Ended (K c.seat.new.self) (S c.seat.new.self) (K c.match-turn.w) (S c.match-turn.w) true c.match-turn.whole =
     elim c.match-turn.branch [
       | in-Err w ↦ ended_err K S c.turn.new.k w.renew.new.self c.match-turn.w w.in-Err.ensures.turned w.renew.ensures w.w-is w.whole-is
-      | in-default w ↦ ended_ok K S c.turn.new.k c.match-turn.w w.in-default.ensures.turned w.w-is w.whole-is
+      | in_default w ↦ ended_ok K S c.turn.new.k c.match-turn.w w.in_default.ensures.turned w.w-is w.whole-is
     ] in
     let g1 = ended nothing 0 s1 e1 in
     let s2 = seated one few1 c.match-turn.whole 1 g1 c.between-in-loop-t.ensures (c.if-not-seat-2.ensures.0 tt) c.if-not-seat-2.ensures.1 in
@@ -58,14 +58,14 @@ seat-requires-in-loop-t-2 g c =
     let e1 : Ended (K c.seat.new.self) (S c.seat.new.self) (K c.match-turn.w) (S c.match-turn.w) true c.match-turn.whole =
     elim c.match-turn.branch [
       | in-Err w ↦ ended_err K S c.turn.new.k w.renew.new.self c.match-turn.w w.in-Err.ensures.turned w.renew.ensures w.w-is w.whole-is
-      | in-default w ↦ ended_ok K S c.turn.new.k c.match-turn.w w.in-default.ensures.turned w.w-is w.whole-is
+      | in_default w ↦ ended_ok K S c.turn.new.k c.match-turn.w w.in_default.ensures.turned w.w-is w.whole-is
     ] in
     let g1 = ended nothing 0 s1 e1 in
     let s2 = seated one few1 c.match-turn.whole 1 g1 c.between-in-loop-t.ensures (c.if-not-seat-2.ensures.0 tt) c.if-not-seat-2.ensures.1 in
     let e2 : Ended (K c.seat-in-loop-t.new.self) (S c.seat-in-loop-t.new.self) (K c.match-turn-2.w) (S c.match-turn-2.w) c.match-turn.whole c.match-turn-2.whole =
     elim c.match-turn-2.branch [
       | in-Err-turn w ↦ ended_err K S c.turn-in-loop-t.new.k w.renew-in-Err-turn.new.self c.match-turn-2.w w.in-Err-turn.ensures.turned w.renew-in-Err-turn.ensures w.w-is w.whole-is
-      | in-default-turn w ↦ ended_ok K S c.turn-in-loop-t.new.k c.match-turn-2.w w.in-default-turn.ensures.turned w.w-is w.whole-is
+      | in_default-turn w ↦ ended_ok K S c.turn-in-loop-t.new.k c.match-turn-2.w w.in_default-turn.ensures.turned w.w-is w.whole-is
     ] in
     let g2 = ended one 1 s2 e2 in
     let b3 = good_between two few2 c.match-turn-2.whole g2 c.between-in-loop-t-2.ensures in
@@ -79,14 +79,14 @@ turn-requires-in-loop-t-2 g c =
     let e1 : Ended (K c.seat.new.self) (S c.seat.new.self) (K c.match-turn.w) (S c.match-turn.w) true c.match-turn.whole =
     elim c.match-turn.branch [
       | in-Err w ↦ ended_err K S c.turn.new.k w.renew.new.self c.match-turn.w w.in-Err.ensures.turned w.renew.ensures w.w-is w.whole-is
-      | in-default w ↦ ended_ok K S c.turn.new.k c.match-turn.w w.in-default.ensures.turned w.w-is w.whole-is
+      | in_default w ↦ ended_ok K S c.turn.new.k c.match-turn.w w.in_default.ensures.turned w.w-is w.whole-is
     ] in
     let g1 = ended nothing 0 s1 e1 in
     let s2 = seated one few1 c.match-turn.whole 1 g1 c.between-in-loop-t.ensures (c.if-not-seat-2.ensures.0 tt) c.if-not-seat-2.ensures.1 in
     let e2 : Ended (K c.seat-in-loop-t.new.self) (S c.seat-in-loop-t.new.self) (K c.match-turn-2.w) (S c.match-turn-2.w) c.match-turn.whole c.match-turn-2.whole =
     elim c.match-turn-2.branch [
       | in-Err-turn w ↦ ended_err K S c.turn-in-loop-t.new.k w.renew-in-Err-turn.new.self c.match-turn-2.w w.in-Err-turn.ensures.turned w.renew-in-Err-turn.ensures w.w-is w.whole-is
-      | in-default-turn w ↦ ended_ok K S c.turn-in-loop-t.new.k c.match-turn-2.w w.in-default-turn.ensures.turned w.w-is w.whole-is
+      | in_default-turn w ↦ ended_ok K S c.turn-in-loop-t.new.k c.match-turn-2.w w.in_default-turn.ensures.turned w.w-is w.whole-is
     ] in
     let g2 = ended one 1 s2 e2 in
     let s3 = seated two few2 c.match-turn-2.whole 2 g2 c.between-in-loop-t-2.ensures (c.if-not-seat-3.ensures.0 tt) c.if-not-seat-3.ensures.1 in
@@ -100,21 +100,21 @@ round-requires g c =
     let e1 : Ended (K c.seat.new.self) (S c.seat.new.self) (K c.match-turn.w) (S c.match-turn.w) true c.match-turn.whole =
     elim c.match-turn.branch [
       | in-Err w ↦ ended_err K S c.turn.new.k w.renew.new.self c.match-turn.w w.in-Err.ensures.turned w.renew.ensures w.w-is w.whole-is
-      | in-default w ↦ ended_ok K S c.turn.new.k c.match-turn.w w.in-default.ensures.turned w.w-is w.whole-is
+      | in_default w ↦ ended_ok K S c.turn.new.k c.match-turn.w w.in_default.ensures.turned w.w-is w.whole-is
     ] in
     let g1 = ended nothing 0 s1 e1 in
     let s2 = seated one few1 c.match-turn.whole 1 g1 c.between-in-loop-t.ensures (c.if-not-seat-2.ensures.0 tt) c.if-not-seat-2.ensures.1 in
     let e2 : Ended (K c.seat-in-loop-t.new.self) (S c.seat-in-loop-t.new.self) (K c.match-turn-2.w) (S c.match-turn-2.w) c.match-turn.whole c.match-turn-2.whole =
     elim c.match-turn-2.branch [
       | in-Err-turn w ↦ ended_err K S c.turn-in-loop-t.new.k w.renew-in-Err-turn.new.self c.match-turn-2.w w.in-Err-turn.ensures.turned w.renew-in-Err-turn.ensures w.w-is w.whole-is
-      | in-default-turn w ↦ ended_ok K S c.turn-in-loop-t.new.k c.match-turn-2.w w.in-default-turn.ensures.turned w.w-is w.whole-is
+      | in_default-turn w ↦ ended_ok K S c.turn-in-loop-t.new.k c.match-turn-2.w w.in_default-turn.ensures.turned w.w-is w.whole-is
     ] in
     let g2 = ended one 1 s2 e2 in
     let s3 = seated two few2 c.match-turn-2.whole 2 g2 c.between-in-loop-t-2.ensures (c.if-not-seat-3.ensures.0 tt) c.if-not-seat-3.ensures.1 in
     let e3 : Ended (K c.seat-in-loop-t-2.new.self) (S c.seat-in-loop-t-2.new.self) (K c.match-turn-3.w) (S c.match-turn-3.w) c.match-turn-2.whole c.match-turn-3.whole =
     elim c.match-turn-3.branch [
       | in-Err-turn-2 w ↦ ended_err K S c.turn-in-loop-t-2.new.k w.renew-in-Err-turn-2.new.self c.match-turn-3.w w.in-Err-turn-2.ensures.turned w.renew-in-Err-turn-2.ensures w.w-is w.whole-is
-      | in-default-turn-2 w ↦ ended_ok K S c.turn-in-loop-t-2.new.k c.match-turn-3.w w.in-default-turn-2.ensures.turned w.w-is w.whole-is
+      | in_default-turn-2 w ↦ ended_ok K S c.turn-in-loop-t-2.new.k c.match-turn-3.w w.in_default-turn-2.ensures.turned w.w-is w.whole-is
     ] in
     let g3 = ended two 2 s3 e3 in
     round_needs g3 c.if-whole.true
@@ -127,21 +127,21 @@ loop-t-preserved g c =
     let e1 : Ended (K c.seat.new.self) (S c.seat.new.self) (K c.match-turn.w) (S c.match-turn.w) true c.match-turn.whole =
     elim c.match-turn.branch [
       | in-Err w ↦ ended_err K S c.turn.new.k w.renew.new.self c.match-turn.w w.in-Err.ensures.turned w.renew.ensures w.w-is w.whole-is
-      | in-default w ↦ ended_ok K S c.turn.new.k c.match-turn.w w.in-default.ensures.turned w.w-is w.whole-is
+      | in_default w ↦ ended_ok K S c.turn.new.k c.match-turn.w w.in_default.ensures.turned w.w-is w.whole-is
     ] in
     let g1 = ended nothing 0 s1 e1 in
     let s2 = seated one few1 c.match-turn.whole 1 g1 c.between-in-loop-t.ensures (c.if-not-seat-2.ensures.0 tt) c.if-not-seat-2.ensures.1 in
     let e2 : Ended (K c.seat-in-loop-t.new.self) (S c.seat-in-loop-t.new.self) (K c.match-turn-2.w) (S c.match-turn-2.w) c.match-turn.whole c.match-turn-2.whole =
     elim c.match-turn-2.branch [
       | in-Err-turn w ↦ ended_err K S c.turn-in-loop-t.new.k w.renew-in-Err-turn.new.self c.match-turn-2.w w.in-Err-turn.ensures.turned w.renew-in-Err-turn.ensures w.w-is w.whole-is
-      | in-default-turn w ↦ ended_ok K S c.turn-in-loop-t.new.k c.match-turn-2.w w.in-default-turn.ensures.turned w.w-is w.whole-is
+      | in_default-turn w ↦ ended_ok K S c.turn-in-loop-t.new.k c.match-turn-2.w w.in_default-turn.ensures.turned w.w-is w.whole-is
     ] in
     let g2 = ended one 1 s2 e2 in
     let s3 = seated two few2 c.match-turn-2.whole 2 g2 c.between-in-loop-t-2.ensures (c.if-not-seat-3.ensures.0 tt) c.if-not-seat-3.ensures.1 in
     let e3 : Ended (K c.seat-in-loop-t-2.new.self) (S c.seat-in-loop-t-2.new.self) (K c.match-turn-3.w) (S c.match-turn-3.w) c.match-turn-2.whole c.match-turn-3.whole =
     elim c.match-turn-3.branch [
       | in-Err-turn-2 w ↦ ended_err K S c.turn-in-loop-t-2.new.k w.renew-in-Err-turn-2.new.self c.match-turn-3.w w.in-Err-turn-2.ensures.turned w.renew-in-Err-turn-2.ensures w.w-is w.whole-is
-      | in-default-turn-2 w ↦ ended_ok K S c.turn-in-loop-t-2.new.k c.match-turn-3.w w.in-default-turn-2.ensures.turned w.w-is w.whole-is
+      | in_default-turn-2 w ↦ ended_ok K S c.turn-in-loop-t-2.new.k c.match-turn-3.w w.in_default-turn-2.ensures.turned w.w-is w.whole-is
     ] in
     let g3 = ended two 2 s3 e3 in
     elim c.else-whole.branch [

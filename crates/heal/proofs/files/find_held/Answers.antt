@@ -30,24 +30,24 @@ returns-then-v-eq0 g c =
     let S = g.K.Desk.seen in
     let k0 = K c.args.k.now in
     let s0 = S c.args.k.now in
-    let k1 = K c.read-far.new.k in
-    let s1 = S c.read-far.new.k in
-    let r1 = c.in-ok-v.ensures in
+    let k1 = K c.read_far.new.k in
+    let s1 = S c.read_far.new.k in
+    let r1 = c.in_ok-v.ensures in
     let x1 = r1.gives _ refl in
     let A1 = r1.after in
     let E1 = x1.1 in
     let Q1 = same_cells k0 k1 s0 s1 E1 in
     did_ok 1 1 k0 k1 s0 s1 _ _ (omega arith) A1 (inr (sym x1.0 ∙ c.if-v-eq0.true), x1.1)
 
-pub overflow-cast-result : goal.overflow-cast-result
-overflow-cast-result g c =
+pub overflow_cast-result : goal.overflow_cast-result
+overflow_cast-result g c =
     let K = g.K.Desk.kern in
     let S = g.K.Desk.seen in
     let k0 = K c.args.k.now in
     let s0 = S c.args.k.now in
-    let k1 = K c.read-far.new.k in
-    let s1 = S c.read-far.new.k in
-    let r1 = c.in-ok-v.ensures in
+    let k1 = K c.read_far.new.k in
+    let s1 = S c.read_far.new.k in
+    let r1 = c.in_ok-v.ensures in
     let x1 = r1.gives _ refl in
     let A1 = r1.after in
     let E1 = x1.1 in
@@ -62,9 +62,9 @@ returns g c =
     let S = g.K.Desk.seen in
     let k0 = K c.args.k.now in
     let s0 = S c.args.k.now in
-    let k1 = K c.read-far.new.k in
-    let s1 = S c.read-far.new.k in
-    let r1 = c.in-ok-v.ensures in
+    let k1 = K c.read_far.new.k in
+    let s1 = S c.read_far.new.k in
+    let r1 = c.in_ok-v.ensures in
     let x1 = r1.gives _ refl in
     let A1 = r1.after in
     let E1 = x1.1 in

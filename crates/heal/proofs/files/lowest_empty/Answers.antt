@@ -24,8 +24,8 @@ loop-e-init g c =
     let s0 = S c.args.k.now in
     (omega arith, after_none k0 s0 8 c.requires.able, record { is = refl; same = refl }, (λ i l. absurd (omega arith)))
 
-pub read-far-requires : goal.read-far-requires
-read-far-requires g c =
+pub read_far-requires : goal.read_far-requires
+read_far-requires g c =
     let K = g.K.Desk.kern in
     let S = g.K.Desk.seen in
     let k0 = K c.args.k.now in
@@ -36,8 +36,8 @@ read-far-requires g c =
     let e = c.loop-e.e in
     record { able = able e 8 k0 k1 s0 s1 c.requires.able I.1 1 (omega (arith, c.loop-e-test.true)); within = in_files _ _ (I.1.seat ∙ c.requires.one) (omega (arith, c.loop-e-test.true, c.requires.small)) }
 
-pub returns-in-err-v : goal.returns-in-err-v
-returns-in-err-v g c =
+pub returns-in_err-v : goal.returns-in_err-v
+returns-in_err-v g c =
     let K = g.K.Desk.kern in
     let S = g.K.Desk.seen in
     let k0 = K c.args.k.now in
@@ -46,9 +46,9 @@ returns-in-err-v g c =
     let s1 = S c.loop-e.k in
     let I = c.loop-e.invariant in
     let e = c.loop-e.e in
-    let k2 = K c.read-far.new.k in
-    let s2 = S c.read-far.new.k in
-    did_lost (e + 1) 8 k0 k2 s0 s2 c.from-residual.result _ (omega (arith, c.loop-e-test.true)) c.from-residual.ensures.0 (after_then e 1 k0 k1 k2 s0 s1 s2 false I.1 c.in-err-v.ensures.after)
+    let k2 = K c.read_far.new.k in
+    let s2 = S c.read_far.new.k in
+    did_lost (e + 1) 8 k0 k2 s0 s2 c.from_residual.result _ (omega (arith, c.loop-e-test.true)) c.from_residual.ensures.0 (after_then e 1 k0 k1 k2 s0 s1 s2 false I.1 c.in_err-v.ensures.after)
 
 pub returns-then-v-eq0 : goal.returns-then-v-eq0
 returns-then-v-eq0 g c =
@@ -60,13 +60,13 @@ returns-then-v-eq0 g c =
     let s1 = S c.loop-e.k in
     let I = c.loop-e.invariant in
     let e = c.loop-e.e in
-    let k2 = K c.read-far.new.k in
-    let s2 = S c.read-far.new.k in
-    let r = c.in-ok-v.ensures in
+    let k2 = K c.read_far.new.k in
+    let s2 = S c.read_far.new.k in
+    let r = c.in_ok-v.ensures in
     let x = r.gives _ refl in
     let A = after_then e 1 k0 k1 k2 s0 s1 s2 true I.1 r.after in
     let E = read_read k0 k1 k2 s0 s1 s2 I.2 x.1 in
-    let v0 : c.in-ok-v.v ≡ cells k0 (hand_at c.args.p e) = x.0 ∙ ap (λ f. f (hand_at c.args.p e)) (same_cells k0 k1 s0 s1 I.2) in
+    let v0 : c.in_ok-v.v ≡ cells k0 (hand_at c.args.p e) = x.0 ∙ ap (λ f. f (hand_at c.args.p e)) (same_cells k0 k1 s0 s1 I.2) in
     did_ok (e + 1) 8 k0 k2 s0 s2 (Some e) _ (omega (arith, c.loop-e-test.true)) A ((c.loop-e-test.true, sym v0 ∙ c.if-v-eq0.true, I.3), E)
 
 pub loop-e-preserved : goal.loop-e-preserved
@@ -79,13 +79,13 @@ loop-e-preserved g c =
     let s1 = S c.loop-e.k in
     let I = c.loop-e.invariant in
     let e = c.loop-e.e in
-    let k2 = K c.read-far.new.k in
-    let s2 = S c.read-far.new.k in
-    let r = c.in-ok-v.ensures in
+    let k2 = K c.read_far.new.k in
+    let s2 = S c.read_far.new.k in
+    let r = c.in_ok-v.ensures in
     let x = r.gives _ refl in
     let A = after_then e 1 k0 k1 k2 s0 s1 s2 true I.1 r.after in
     let E = read_read k0 k1 k2 s0 s1 s2 I.2 x.1 in
-    let v0 : c.in-ok-v.v ≡ cells k0 (hand_at c.args.p e) = x.0 ∙ ap (λ f. f (hand_at c.args.p e)) (same_cells k0 k1 s0 s1 I.2) in
+    let v0 : c.in_ok-v.v ≡ cells k0 (hand_at c.args.p e) = x.0 ∙ ap (λ f. f (hand_at c.args.p e)) (same_cells k0 k1 s0 s1 I.2) in
     (omega (arith, c.loop-e-test.true), A, E, below_more (λ i. cells k0 (hand_at c.args.p i) ≡ 0 → ⊥) e I.3 (λ f. c.if-v-eq0.false (v0 ∙ f)))
 
 pub returns : goal.returns

@@ -31,17 +31,17 @@ module _ (m : ℕ) (k : Kern) (es : List Event) (h : Sound k) (e : own k 0 ≡ m
     unfolding one
     facts = applies k.at m x y (own k) e (sound_own k h) x-is (ok_is y (own k1 (2 * m + 2)) ey ∙ ap (λ f. f (2 * m + 2)) one.cells)
 
-pub overflow-mul-m : goal.overflow-mul-m
-overflow-mul-m g c = let h = few c.args.m (g.K.Desk.kern c.args.k.now) c.requires.sound c.requires.count in search rules
+pub overflow_mul-m : goal.overflow_mul-m
+overflow_mul-m g c = let h = few c.args.m (g.K.Desk.kern c.args.k.now) c.requires.sound c.requires.count in search rules
 
-pub overflow-add-m : goal.overflow-add-m
-overflow-add-m g c = let h = few c.args.m (g.K.Desk.kern c.args.k.now) c.requires.sound c.requires.count in search rules
+pub overflow_add-m : goal.overflow_add-m
+overflow_add-m g c = let h = few c.args.m (g.K.Desk.kern c.args.k.now) c.requires.sound c.requires.count in search rules
 
-pub overflow-mul-m-2 : goal.overflow-mul-m-2
-overflow-mul-m-2 g c = let h = few c.args.m (g.K.Desk.kern c.args.k.now) c.requires.sound c.requires.count in search rules
+pub overflow_mul-m-2 : goal.overflow_mul-m-2
+overflow_mul-m-2 g c = let h = few c.args.m (g.K.Desk.kern c.args.k.now) c.requires.sound c.requires.count in search rules
 
-pub overflow-add-m-2 : goal.overflow-add-m-2
-overflow-add-m-2 g c = let h = few c.args.m (g.K.Desk.kern c.args.k.now) c.requires.sound c.requires.count in search rules
+pub overflow_add-m-2 : goal.overflow_add-m-2
+overflow_add-m-2 g c = let h = few c.args.m (g.K.Desk.kern c.args.k.now) c.requires.sound c.requires.count in search rules
 
 pub get-requires : goal.get-requires
 get-requires g c =
@@ -49,61 +49,61 @@ get-requires g c =
     let i = cells_many (g.K.Desk.kern c.args.k.now).at in
     (omega (arith, c.requires.some), omega arith)
 
-pub returns-in-err-cell : goal.returns-in-err-cell
-returns-in-err-cell g c =
-    let no = not_ok c.from-residual.result c.from-residual.ensures.0 in
-    let w = lost_get (at_start _ _ c.requires.sound) _ _ c.in-err-cell.ensures.1 refl no in
+pub returns-in_err-cell : goal.returns-in_err-cell
+returns-in_err-cell g c =
+    let no = not_ok c.from_residual.result c.from_residual.ensures.0 in
+    let w = lost_get (at_start _ _ c.requires.sound) _ _ c.in_err-cell.ensures.1 refl no in
     record { sound = w.0; count = λ e. absurd (false≢true (sym no ∙ e)); same = more (omega arith) w.1 }
 
-pub overflow-cast-cell : goal.overflow-cast-cell
-overflow-cast-cell g c =
-    let h = x-small _ _ _ c.requires.sound c.requires.count c.in-ok-cell.field-0 _ _ c.in-ok-cell.ensures.1 (c.in-ok-cell.ensures.0 refl) in
+pub overflow_cast-cell : goal.overflow_cast-cell
+overflow_cast-cell g c =
+    let h = x-small _ _ _ c.requires.sound c.requires.count c.in_ok-cell.field-0 _ _ c.in_ok-cell.ensures.1 (c.in_ok-cell.ensures.0 refl) in
     let i = cells_few (g.K.Desk.kern c.args.k.now).at in search rules
 
-pub overflow-add-cell : goal.overflow-add-cell
-overflow-add-cell g c =
-    let h = x-small _ _ _ c.requires.sound c.requires.count c.in-ok-cell.field-0 _ _ c.in-ok-cell.ensures.1 (c.in-ok-cell.ensures.0 refl) in
+pub overflow_add-cell : goal.overflow_add-cell
+overflow_add-cell g c =
+    let h = x-small _ _ _ c.requires.sound c.requires.count c.in_ok-cell.field-0 _ _ c.in_ok-cell.ensures.1 (c.in_ok-cell.ensures.0 refl) in
     let i = cells_few (g.K.Desk.kern c.args.k.now).at in search rules
 
 pub get-requires-2 : goal.get-requires-2
 get-requires-2 g c =
     let h = few c.args.m (g.K.Desk.kern c.args.k.now) c.requires.sound c.requires.count in
     let i = cells_many (g.K.Desk.kern c.get.new.self).at in
-    let a = one _ _ _ c.requires.sound c.requires.count c.in-ok-cell.field-0 _ _ c.in-ok-cell.ensures.1 (c.in-ok-cell.ensures.0 refl) in
+    let a = one _ _ _ c.requires.sound c.requires.count c.in_ok-cell.field-0 _ _ c.in_ok-cell.ensures.1 (c.in_ok-cell.ensures.0 refl) in
     (omega (arith, c.requires.some, at_left a), omega arith)
 
-pub returns-in-err-word : goal.returns-in-err-word
-returns-in-err-word g c =
-    let no = not_ok c.from-residual-in-err-word.result c.from-residual-in-err-word.ensures.0 in
-    let a = one _ _ _ c.requires.sound c.requires.count c.in-ok-cell.field-0 _ _ c.in-ok-cell.ensures.1 (c.in-ok-cell.ensures.0 refl) in
-    let w = lost_get a _ _ c.in-err-word.ensures.1 refl no in
+pub returns-in_err-word : goal.returns-in_err-word
+returns-in_err-word g c =
+    let no = not_ok c.from_residual-in_err-word.result c.from_residual-in_err-word.ensures.0 in
+    let a = one _ _ _ c.requires.sound c.requires.count c.in_ok-cell.field-0 _ _ c.in_ok-cell.ensures.1 (c.in_ok-cell.ensures.0 refl) in
+    let w = lost_get a _ _ c.in_err-word.ensures.1 refl no in
     record { sound = w.0; count = λ e. absurd (false≢true (sym no ∙ e)); same = more (omega arith) w.1 }
 
 pub put-requires : goal.put-requires
 put-requires g c =
-    let a = two _ _ _ c.requires.sound c.requires.count c.in-ok-cell.field-0 _ _ c.in-ok-cell.ensures.1 (c.in-ok-cell.ensures.0 refl) c.in-ok-word.word _ _ c.in-ok-word.ensures.1 (c.in-ok-word.ensures.0 refl) in
-    (omega (arith, c.requires.some, at_left a), at_there a (c.in-ok-cell.field-0 + 17) (x-small _ _ _ c.requires.sound c.requires.count c.in-ok-cell.field-0 _ _ c.in-ok-cell.ensures.1 (c.in-ok-cell.ensures.0 refl)))
+    let a = two _ _ _ c.requires.sound c.requires.count c.in_ok-cell.field-0 _ _ c.in_ok-cell.ensures.1 (c.in_ok-cell.ensures.0 refl) c.in_ok-word.word _ _ c.in_ok-word.ensures.1 (c.in_ok-word.ensures.0 refl) in
+    (omega (arith, c.requires.some, at_left a), at_there a (c.in_ok-cell.field-0 + 17) (x-small _ _ _ c.requires.sound c.requires.count c.in_ok-cell.field-0 _ _ c.in_ok-cell.ensures.1 (c.in_ok-cell.ensures.0 refl)))
 
-pub returns-in-err-put : goal.returns-in-err-put
-returns-in-err-put g c =
-    let no = not_ok c.from-residual-in-err-put.result c.from-residual-in-err-put.ensures.0 in
-    let a = two _ _ _ c.requires.sound c.requires.count c.in-ok-cell.field-0 _ _ c.in-ok-cell.ensures.1 (c.in-ok-cell.ensures.0 refl) c.in-ok-word.word _ _ c.in-ok-word.ensures.1 (c.in-ok-word.ensures.0 refl) in
-    let f = facts _ _ _ c.requires.sound c.requires.count c.in-ok-cell.field-0 _ _ c.in-ok-cell.ensures.1 (c.in-ok-cell.ensures.0 refl) c.in-ok-word.word _ _ c.in-ok-word.ensures.1 (c.in-ok-word.ensures.0 refl) in
-    let w = lost_put a _ _ _ _ f.view-1 f.fine-1 c.in-err-put.ensures refl no in
+pub returns-in_err-put : goal.returns-in_err-put
+returns-in_err-put g c =
+    let no = not_ok c.from_residual-in_err-put.result c.from_residual-in_err-put.ensures.0 in
+    let a = two _ _ _ c.requires.sound c.requires.count c.in_ok-cell.field-0 _ _ c.in_ok-cell.ensures.1 (c.in_ok-cell.ensures.0 refl) c.in_ok-word.word _ _ c.in_ok-word.ensures.1 (c.in_ok-word.ensures.0 refl) in
+    let f = facts _ _ _ c.requires.sound c.requires.count c.in_ok-cell.field-0 _ _ c.in_ok-cell.ensures.1 (c.in_ok-cell.ensures.0 refl) c.in_ok-word.word _ _ c.in_ok-word.ensures.1 (c.in_ok-word.ensures.0 refl) in
+    let w = lost_put a _ _ _ _ f.view_1 f.fine_1 c.in_err-put.ensures refl no in
     record { sound = w.0; count = λ e. absurd (false≢true (sym no ∙ e)); same = more (omega arith) w.1 }
 
 pub put-requires-2 : goal.put-requires-2
 put-requires-2 g c =
-    let a = two _ _ _ c.requires.sound c.requires.count c.in-ok-cell.field-0 _ _ c.in-ok-cell.ensures.1 (c.in-ok-cell.ensures.0 refl) c.in-ok-word.word _ _ c.in-ok-word.ensures.1 (c.in-ok-word.ensures.0 refl) in
-    let f = facts _ _ _ c.requires.sound c.requires.count c.in-ok-cell.field-0 _ _ c.in-ok-cell.ensures.1 (c.in-ok-cell.ensures.0 refl) c.in-ok-word.word _ _ c.in-ok-word.ensures.1 (c.in-ok-word.ensures.0 refl) in
-    let b = at_put a _ _ f.view-1 f.fine-1 c.in-ok-put.ensures refl in
+    let a = two _ _ _ c.requires.sound c.requires.count c.in_ok-cell.field-0 _ _ c.in_ok-cell.ensures.1 (c.in_ok-cell.ensures.0 refl) c.in_ok-word.word _ _ c.in_ok-word.ensures.1 (c.in_ok-word.ensures.0 refl) in
+    let f = facts _ _ _ c.requires.sound c.requires.count c.in_ok-cell.field-0 _ _ c.in_ok-cell.ensures.1 (c.in_ok-cell.ensures.0 refl) c.in_ok-word.word _ _ c.in_ok-word.ensures.1 (c.in_ok-word.ensures.0 refl) in
+    let b = at_put a _ _ f.view_1 f.fine_1 c.in_ok-put.ensures refl in
     let i = cells_many (g.K.Desk.kern c.put.new.self).at in
     (omega (arith, c.requires.some, at_left b), omega arith)
 
 pub returns : goal.returns
 returns g c =
-    let a = two _ _ _ c.requires.sound c.requires.count c.in-ok-cell.field-0 _ _ c.in-ok-cell.ensures.1 (c.in-ok-cell.ensures.0 refl) c.in-ok-word.word _ _ c.in-ok-word.ensures.1 (c.in-ok-word.ensures.0 refl) in
-    let f = facts _ _ _ c.requires.sound c.requires.count c.in-ok-cell.field-0 _ _ c.in-ok-cell.ensures.1 (c.in-ok-cell.ensures.0 refl) c.in-ok-word.word _ _ c.in-ok-word.ensures.1 (c.in-ok-word.ensures.0 refl) in
-    let b = at_put a _ _ f.view-1 f.fine-1 c.in-ok-put.ensures refl in
-    let w = end_same b _ _ f.view-2 f.fine-2 c.put-2.ensures in
-    record { sound = w.0; count = λ e. ap (λ h. h 0) (w.1 e) ∙ set_here 0 c.args.m (set (c.in-ok-cell.field-0 + 17) c.in-ok-word.word (own (g.K.Desk.kern c.args.k.now))) 0 refl; same = w.2 }
+    let a = two _ _ _ c.requires.sound c.requires.count c.in_ok-cell.field-0 _ _ c.in_ok-cell.ensures.1 (c.in_ok-cell.ensures.0 refl) c.in_ok-word.word _ _ c.in_ok-word.ensures.1 (c.in_ok-word.ensures.0 refl) in
+    let f = facts _ _ _ c.requires.sound c.requires.count c.in_ok-cell.field-0 _ _ c.in_ok-cell.ensures.1 (c.in_ok-cell.ensures.0 refl) c.in_ok-word.word _ _ c.in_ok-word.ensures.1 (c.in_ok-word.ensures.0 refl) in
+    let b = at_put a _ _ f.view_1 f.fine_1 c.in_ok-put.ensures refl in
+    let w = end_same b _ _ f.view_2 f.fine_2 c.put-2.ensures in
+    record { sound = w.0; count = λ e. ap (λ h. h 0) (w.1 e) ∙ set_here 0 c.args.m (set (c.in_ok-cell.field-0 + 17) c.in_ok-word.word (own (g.K.Desk.kern c.args.k.now))) 0 refl; same = w.2 }

@@ -11,25 +11,25 @@ module _ (i x : ℕ) (k : Kern) (es : List Event) (h : Sound k) (e : own k 0 ≡
   one : At 1 k es (set (2 * i + 1) x (own k)) k1 es1
   one = at_put (at_start k es h) (2 * i + 1) x (front_settled (2 * i + 1) x (own k) e (omega arith) (omega arith)).1 (front_fine k.at (2 * i + 1) x (own k) e (omega arith) (omega arith)) d refl
 
-pub returns-in-err-put : goal.returns-in-err-put
-returns-in-err-put g c =
-    let no = not_ok c.from-residual.result c.from-residual.ensures.0 in
+pub returns-in_err-put : goal.returns-in_err-put
+returns-in_err-put g c =
+    let no = not_ok c.from_residual.result c.from_residual.ensures.0 in
     let i = c.args.i in
     let few : i < 8 = c.requires.few in
     let w =
     lost_put (at_start _ _ c.requires.sound) _ _ (2 * i + 1) c.args.cell (front_settled (2 * i + 1) c.args.cell _ c.requires.settled (omega arith) (omega arith)).1
-    (front_fine _ (2 * i + 1) c.args.cell _ c.requires.settled (omega arith) (omega arith)) c.in-err-put.ensures refl no in
+    (front_fine _ (2 * i + 1) c.args.cell _ c.requires.settled (omega arith) (omega arith)) c.in_err-put.ensures refl no in
     record { sound = w.0; settled = λ e. absurd (false≢true (sym no ∙ e)); noted = λ e. absurd (false≢true (sym no ∙ e)); same = more (omega arith) w.1 }
 
 pub put-requires-2 : goal.put-requires-2
 put-requires-2 g c =
-    let a = one c.args.i c.args.cell _ _ c.requires.sound c.requires.settled c.requires.few _ _ c.in-ok-put.ensures in
+    let a = one c.args.i c.args.cell _ _ c.requires.sound c.requires.settled c.requires.few _ _ c.in_ok-put.ensures in
     let i = cells_many (g.K.Desk.kern c.put.new.self).at in
     (omega (arith, c.requires.some, at_left a), omega (arith, c.requires.few))
 
 pub returns : goal.returns
 returns g c =
-    let a = one c.args.i c.args.cell _ _ c.requires.sound c.requires.settled c.requires.few _ _ c.in-ok-put.ensures in
+    let a = one c.args.i c.args.cell _ _ c.requires.sound c.requires.settled c.requires.few _ _ c.in_ok-put.ensures in
     let i = c.args.i in
     let few : i < 8 = c.requires.few in
     let f = own (g.K.Desk.kern c.args.k.now) in

@@ -25,34 +25,34 @@ pub note-requires : goal.note-requires
 note-requires g c =
     record { some = omega (arith, at_left c.loop-i.invariant.0, c.requires.some, c.requires.few, c.loop-i-test); sound = c.loop-i.invariant.0.sound; settled = c.loop-i.invariant.1; few = omega (arith, c.requires.few, c.loop-i-test) }
 
-pub returns-in-err-note : goal.returns-in-err-note
-returns-in-err-note g c =
-    let no = not_ok c.from-residual.result c.from-residual.ensures.0 in
-    let p = c.in-err-note.ensures in
+pub returns-in_err-note : goal.returns-in_err-note
+returns-in_err-note g c =
+    let no = not_ok c.from_residual.result c.from_residual.ensures.0 in
+    let p = c.in_err-note.ensures in
     let w = lost_call c.loop-i.invariant.0 _ _ _ p.same refl no in
     record { sound = p.sound; settled = λ e. absurd (false≢true (sym no ∙ e)); done = more (omega (arith, c.requires.few, c.loop-i-test)) w }
 
 pub loop-i-preserved : goal.loop-i-preserved
 loop-i-preserved g c =
-    let p = c.in-ok-note.ensures in
+    let p = c.in_ok-note.ensures in
     (at_more (omega arith) (at_call c.loop-i.invariant.0 p.sound p.same refl), p.settled refl, p.noted refl ∙ back c.args.pairs.now c.loop-i.i _ c.loop-i-test.true c.loop-i.invariant.2)
 
 pub put-requires : goal.put-requires
 put-requires g c = let i = cells_many (g.K.Desk.kern c.loop-i.k).at in (omega (arith, at_left c.loop-i.invariant.0, c.requires.some, c.requires.few, c.loop-i.auto.i-end), omega arith)
 
-pub returns-in-err-put : goal.returns-in-err-put
-returns-in-err-put g c =
-    let no = not_ok c.from-residual-in-err-put.result c.from-residual-in-err-put.ensures.0 in
-    let w = moment _ _ _ _ _ _ c.loop-i.invariant.0 c.loop-i.invariant.1 c.loop-i.invariant.2 c.loop-i-test.false c.loop-i.auto.i-end c.requires.few c.requires.within c.in-err-put.ensures in
+pub returns-in_err-put : goal.returns-in_err-put
+returns-in_err-put g c =
+    let no = not_ok c.from_residual-in_err-put.result c.from_residual-in_err-put.ensures.0 in
+    let w = moment _ _ _ _ _ _ c.loop-i.invariant.0 c.loop-i.invariant.1 c.loop-i.invariant.2 c.loop-i-test.false c.loop-i.auto.i-end c.requires.few c.requires.within c.in_err-put.ensures in
     record { sound = w.0; settled = λ e. absurd (false≢true (sym no ∙ e)); done = more (omega (arith, c.requires.few, c.loop-i.auto.i-end)) (as_lost w.2 refl no) }
 
 pub recover-requires : goal.recover-requires
 recover-requires g c =
-    let w = moment _ _ _ _ _ _ c.loop-i.invariant.0 c.loop-i.invariant.1 c.loop-i.invariant.2 c.loop-i-test.false c.loop-i.auto.i-end c.requires.few c.requires.within c.in-ok-put.ensures in
+    let w = moment _ _ _ _ _ _ c.loop-i.invariant.0 c.loop-i.invariant.1 c.loop-i.invariant.2 c.loop-i-test.false c.loop-i.auto.i-end c.requires.few c.requires.within c.in_ok-put.ensures in
     record { some = omega (arith, atomic_left w.2, c.requires.some, c.requires.few, c.loop-i.auto.i-end); sound = w.0 }
 
 pub returns : goal.returns
 returns g c =
-    let w = moment _ _ _ _ _ _ c.loop-i.invariant.0 c.loop-i.invariant.1 c.loop-i.invariant.2 c.loop-i-test.false c.loop-i.auto.i-end c.requires.few c.requires.within c.in-ok-put.ensures in
+    let w = moment _ _ _ _ _ _ c.loop-i.invariant.0 c.loop-i.invariant.1 c.loop-i.invariant.2 c.loop-i-test.false c.loop-i.auto.i-end c.requires.few c.requires.within c.in_ok-put.ensures in
     let p = c.recover.ensures in
     record { sound = p.sound; settled = p.settled; done = more (omega (arith, c.requires.few, c.loop-i.auto.i-end)) (then_stays w.2 refl p.same) }

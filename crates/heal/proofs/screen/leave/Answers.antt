@@ -28,13 +28,13 @@ returns-then-owner-p g c =
     let s0 = S c.args.k.now in
     let k1 = K c.read.new.k in
     let s1 = S c.read.new.k in
-    let r1 = c.in-ok-owner.ensures in
+    let r1 = c.in_ok-owner.ensures in
     let x1 = r1.gives _ refl in
     let A1 = r1.after in
     let E1 = x1.1 in
     let Q1 = same_cells k0 k1 s0 s1 E1 in
     let two = at_two c.args.p (Leave) (viewed k0) c.requires.stand (there) in
-    let o : (viewed k0).cell 2 52 ≡ c.in-ok-owner.owner = subst (λ σ. (viewed k0).cell σ 52 ≡ c.in-ok-owner.owner) two (sym x1.0) in
+    let o : (viewed k0).cell 2 52 ≡ c.in_ok-owner.owner = subst (λ σ. (viewed k0).cell σ 52 ≡ c.in_ok-owner.owner) two (sym x1.0) in
     did_ok 1 1 k0 k1 s0 s1 c.refuse.result _ (omega arith) A1 (chosen_exact c.args.p (Leave) c.refuse.result (viewed k0) k1 s0 s1 E1 (chosen_from c.args.p (Leave) c.refuse.result (No 9) ([]) (viewed k0) s0 c.refuse.ensures c.requires.stand (leave_no9 c.args.p (viewed k0) s0 two c.requires.stand (λ e. c.if-owner-p.true (sym o ∙ e)))), same_box k0 k1 s0 s1 E1)
 
 pub returns : goal.returns
@@ -45,11 +45,11 @@ returns g c =
     let s0 = S c.args.k.now in
     let k1 = K c.read.new.k in
     let s1 = S c.read.new.k in
-    let r1 = c.in-ok-owner.ensures in
+    let r1 = c.in_ok-owner.ensures in
     let x1 = r1.gives _ refl in
     let A1 = r1.after in
     let E1 = x1.1 in
     let Q1 = same_cells k0 k1 s0 s1 E1 in
     let two = at_two c.args.p (Leave) (viewed k0) c.requires.stand (there) in
-    let o : (viewed k0).cell 2 52 ≡ c.in-ok-owner.owner = subst (λ σ. (viewed k0).cell σ 52 ≡ c.in-ok-owner.owner) two (sym x1.0) in
-    did_ok 1 1 k0 k1 s0 s1 c.write-one.result _ (omega arith) A1 (chosen_exact c.args.p (Leave) c.write-one.result (viewed k0) k1 s0 s1 E1 (chosen_from c.args.p (Leave) c.write-one.result (Done) ((52, 0) ∷ []) (viewed k0) s0 c.write-one.ensures c.requires.stand (leave_done c.args.p (viewed k0) s0 two c.requires.stand (o ∙ c.if-owner-p.false))), same_box k0 k1 s0 s1 E1)
+    let o : (viewed k0).cell 2 52 ≡ c.in_ok-owner.owner = subst (λ σ. (viewed k0).cell σ 52 ≡ c.in_ok-owner.owner) two (sym x1.0) in
+    did_ok 1 1 k0 k1 s0 s1 c.write_one.result _ (omega arith) A1 (chosen_exact c.args.p (Leave) c.write_one.result (viewed k0) k1 s0 s1 E1 (chosen_from c.args.p (Leave) c.write_one.result (Done) ((52, 0) ∷ []) (viewed k0) s0 c.write_one.ensures c.requires.stand (leave_done c.args.p (viewed k0) s0 two c.requires.stand (o ∙ c.if-owner-p.false))), same_box k0 k1 s0 s1 E1)

@@ -14,7 +14,7 @@ take-requires g c =
     let s0 = S c.args.k.now in
     let k1 = K c.read.new.k in
     let s1 = S c.read.new.k in
-    let r1 = c.in-ok-last.ensures in
+    let r1 = c.in_ok-last.ensures in
     let x1 = r1.gives _ refl in
     let A1 = r1.after in
     let hd = c.requires.head in
@@ -35,7 +35,7 @@ returns-then-number-last g c =
     let s0 = S c.args.k.now in
     let k1 = K c.read.new.k in
     let s1 = S c.read.new.k in
-    let r1 = c.in-ok-last.ensures in
+    let r1 = c.in_ok-last.ensures in
     let x1 = r1.gives _ refl in
     let A1 = r1.after in
     let hd = c.requires.head in
@@ -47,23 +47,23 @@ returns-then-number-last g c =
     let ca : sweep (cells k0) < 64 = c.requires.calm in
     did_then 1 1 9 k0 k1 (K c.take.new.k) s0 s1 (S c.take.new.k) c.take.result _ _ (omega arith) A1 c.take.ensures (λ y e f. fewer c.args.p c.args.number c.args.call hd.0 k0 k1 (K c.take.new.k) s1 (S c.take.new.k) hd.1 sb A1.seat sw f)
 
-pub returns-in-err-last : goal.returns-in-err-last
-returns-in-err-last g c =
+pub returns-in_err-last : goal.returns-in_err-last
+returns-in_err-last g c =
     let K = g.K.Desk.kern in
     let S = g.K.Desk.seen in
     let k0 = K c.args.k.now in
     let s0 = S c.args.k.now in
-    did_lost 1 9 k0 (K c.read.new.k) s0 (S c.read.new.k) c.from-residual.result _ (omega arith) c.from-residual.ensures.0 c.in-err-last.ensures.after
+    did_lost 1 9 k0 (K c.read.new.k) s0 (S c.read.new.k) c.from_residual.result _ (omega arith) c.from_residual.ensures.0 c.in_err-last.ensures.after
 
-pub add-ready-requires : goal.add-ready-requires
-add-ready-requires g c =
+pub add_ready-requires : goal.add_ready-requires
+add_ready-requires g c =
     let K = g.K.Desk.kern in
     let S = g.K.Desk.seen in
     let k0 = K c.args.k.now in
     let s0 = S c.args.k.now in
     let k1 = K c.read.new.k in
     let s1 = S c.read.new.k in
-    let r1 = c.in-ok-last.ensures in
+    let r1 = c.in_ok-last.ensures in
     let x1 = r1.gives _ refl in
     let A1 = r1.after in
     let hd = c.requires.head in
@@ -75,18 +75,18 @@ add-ready-requires g c =
     let ca : sweep (cells k0) < 64 = c.requires.calm in
     record { able = able 1 9 k0 k1 s0 s1 c.requires.able A1 2 (omega arith); small = c.requires.small }
 
-pub returns-in-err-add-ready : goal.returns-in-err-add-ready
-returns-in-err-add-ready g c =
+pub returns-in_err-add_ready : goal.returns-in_err-add_ready
+returns-in_err-add_ready g c =
     let K = g.K.Desk.kern in
     let S = g.K.Desk.seen in
     let k0 = K c.args.k.now in
     let s0 = S c.args.k.now in
     let k1 = K c.read.new.k in
     let s1 = S c.read.new.k in
-    let r1 = c.in-ok-last.ensures in
+    let r1 = c.in_ok-last.ensures in
     let x1 = r1.gives _ refl in
     let A1 = r1.after in
-    did_lost 3 9 k0 (K c.add-ready.new.k) s0 (S c.add-ready.new.k) c.from-residual-in-err-add-ready.result _ (omega arith) c.from-residual-in-err-add-ready.ensures.0 (after_then 1 2 k0 k1 (K c.add-ready.new.k) s0 s1 (S c.add-ready.new.k) false A1 c.in-err-add-ready.ensures.after)
+    did_lost 3 9 k0 (K c.add_ready.new.k) s0 (S c.add_ready.new.k) c.from_residual-in_err-add_ready.result _ (omega arith) c.from_residual-in_err-add_ready.ensures.0 (after_then 1 2 k0 k1 (K c.add_ready.new.k) s0 s1 (S c.add_ready.new.k) false A1 c.in_err-add_ready.ensures.after)
 
 pub store-requires : goal.store-requires
 store-requires g c =
@@ -96,12 +96,12 @@ store-requires g c =
     let s0 = S c.args.k.now in
     let k1 = K c.read.new.k in
     let s1 = S c.read.new.k in
-    let r1 = c.in-ok-last.ensures in
+    let r1 = c.in_ok-last.ensures in
     let x1 = r1.gives _ refl in
     let A1 = r1.after in
-    let k2 = K c.add-ready.new.k in
-    let s2 = S c.add-ready.new.k in
-    let r2 = c.in-ok-add-ready.ensures in
+    let k2 = K c.add_ready.new.k in
+    let s2 = S c.add_ready.new.k in
+    let r2 = c.in_ok-add_ready.ensures in
     let x2 = r2.gives _ refl in
     let A2 = after_then 1 2 k0 k1 k2 s0 s1 s2 true A1 r2.after in
     let hd = c.requires.head in
@@ -116,23 +116,23 @@ store-requires g c =
     let h = storing c.args.p c.args.number x2.0 c.args.call k1 k2 s1 s2 c.requires.small hd.0 b1 le z1 x2.1 x2.2 in
     record { able = able 3 9 k0 k2 s0 s2 c.requires.able A2 5 (omega arith); small = c.requires.small; fits = c.requires.fits; storing = h }
 
-pub returns-in-err-store : goal.returns-in-err-store
-returns-in-err-store g c =
+pub returns-in_err-store : goal.returns-in_err-store
+returns-in_err-store g c =
     let K = g.K.Desk.kern in
     let S = g.K.Desk.seen in
     let k0 = K c.args.k.now in
     let s0 = S c.args.k.now in
     let k1 = K c.read.new.k in
     let s1 = S c.read.new.k in
-    let r1 = c.in-ok-last.ensures in
+    let r1 = c.in_ok-last.ensures in
     let x1 = r1.gives _ refl in
     let A1 = r1.after in
-    let k2 = K c.add-ready.new.k in
-    let s2 = S c.add-ready.new.k in
-    let r2 = c.in-ok-add-ready.ensures in
+    let k2 = K c.add_ready.new.k in
+    let s2 = S c.add_ready.new.k in
+    let r2 = c.in_ok-add_ready.ensures in
     let x2 = r2.gives _ refl in
     let A2 = after_then 1 2 k0 k1 k2 s0 s1 s2 true A1 r2.after in
-    did_lost 8 9 k0 (K c.store.new.k) s0 (S c.store.new.k) c.from-residual-in-err-store.result _ (omega arith) c.from-residual-in-err-store.ensures.0 (after_then 3 5 k0 k2 (K c.store.new.k) s0 s2 (S c.store.new.k) false A2 c.in-err-store.ensures.after)
+    did_lost 8 9 k0 (K c.store.new.k) s0 (S c.store.new.k) c.from_residual-in_err-store.result _ (omega arith) c.from_residual-in_err-store.ensures.0 (after_then 3 5 k0 k2 (K c.store.new.k) s0 s2 (S c.store.new.k) false A2 c.in_err-store.ensures.after)
 
 pub take-requires-2 : goal.take-requires-2
 take-requires-2 g c =
@@ -142,17 +142,17 @@ take-requires-2 g c =
     let s0 = S c.args.k.now in
     let k1 = K c.read.new.k in
     let s1 = S c.read.new.k in
-    let r1 = c.in-ok-last.ensures in
+    let r1 = c.in_ok-last.ensures in
     let x1 = r1.gives _ refl in
     let A1 = r1.after in
-    let k2 = K c.add-ready.new.k in
-    let s2 = S c.add-ready.new.k in
-    let r2 = c.in-ok-add-ready.ensures in
+    let k2 = K c.add_ready.new.k in
+    let s2 = S c.add_ready.new.k in
+    let r2 = c.in_ok-add_ready.ensures in
     let x2 = r2.gives _ refl in
     let A2 = after_then 1 2 k0 k1 k2 s0 s1 s2 true A1 r2.after in
     let k3 = K c.store.new.k in
     let s3 = S c.store.new.k in
-    let r3 = c.in-ok-store.ensures in
+    let r3 = c.in_ok-store.ensures in
     let x3 = r3.gives _ refl in
     let A3 = after_then 3 5 k0 k2 k3 s0 s2 s3 true A2 r3.after in
     let hd = c.requires.head in
@@ -176,17 +176,17 @@ returns g c =
     let s0 = S c.args.k.now in
     let k1 = K c.read.new.k in
     let s1 = S c.read.new.k in
-    let r1 = c.in-ok-last.ensures in
+    let r1 = c.in_ok-last.ensures in
     let x1 = r1.gives _ refl in
     let A1 = r1.after in
-    let k2 = K c.add-ready.new.k in
-    let s2 = S c.add-ready.new.k in
-    let r2 = c.in-ok-add-ready.ensures in
+    let k2 = K c.add_ready.new.k in
+    let s2 = S c.add_ready.new.k in
+    let r2 = c.in_ok-add_ready.ensures in
     let x2 = r2.gives _ refl in
     let A2 = after_then 1 2 k0 k1 k2 s0 s1 s2 true A1 r2.after in
     let k3 = K c.store.new.k in
     let s3 = S c.store.new.k in
-    let r3 = c.in-ok-store.ensures in
+    let r3 = c.in_ok-store.ensures in
     let x3 = r3.gives _ refl in
     let A3 = after_then 3 5 k0 k2 k3 s0 s2 s3 true A2 r3.after in
     let hd = c.requires.head in

@@ -9,7 +9,7 @@ pub write-requires : goal.write-requires
 write-requires g c =
     let K = g.K.Desk.kern in
     let S = g.K.Desk.seen in
-    let r = c.in-ok-bits.ensures in
+    let r = c.in_ok-bits.ensures in
     let x = r.gives _ refl in
     let s = same_cell (K c.args.k.now) (K c.read.new.k) _ _ x.1 36 in
     record {
@@ -21,5 +21,5 @@ write-requires g c =
 pub returns : goal.returns
 returns g c =
     let K = g.K.Desk.kern in
-    let r = c.in-ok-bits.ensures in
+    let r = c.in_ok-bits.ensures in
     did_then 1 1 2 (K c.args.k.now) (K c.read.new.k) (K c.write.new.k) _ _ _ c.write.result _ _ (omega arith) r.after c.write.ensures (λ y e f. (_, has_new' c.args.p _ _ c.insert.ensures, read_put _ _ _ _ _ _ _ _ (r.gives _ refl).1 f))

@@ -53,7 +53,7 @@ returns-then-not-branch g c =
     let n = c.loop-n.n in
     let k2 = K c.step.new.k in
     let s2 = S c.step.new.k in
-    let r2 = c.in-ok-step.ensures in
+    let r2 = c.in_ok-step.ensures in
     let x2 = r2.gives _ refl in
     let A2 = after_then (90 * n) 90 k0 k1 k2 s0 s1 s2 true A1 r2.after in
     did_ok (90 * n + 90) 2880 k0 k2 s0 s2 tt _ (omega (arith, c.loop-n-test)) A2 (record { calm = record { sweeping = x2.calm.sweeping; boxes = x2.calm.boxes ∙ ca.boxes }; rests = inl (x2.rests c.if-not-branch.true) })
@@ -72,7 +72,7 @@ loop-n-preserved g c =
     let n = c.loop-n.n in
     let k2 = K c.step.new.k in
     let s2 = S c.step.new.k in
-    let r2 = c.in-ok-step.ensures in
+    let r2 = c.in_ok-step.ensures in
     let x2 = r2.gives _ refl in
     let A2 = after_then (90 * n) 90 k0 k1 k2 s0 s1 s2 true A1 r2.after in
     (after_up (90 * n + 90) _ k0 k2 s0 s2 true (omega arith) A2, record { sweeping = x2.calm.sweeping; boxes = x2.calm.boxes ∙ ca.boxes }, give_add n k0 k1 k2 s0 s1 s2 A1.seat gi (x2.gave c.if-not-branch.false), omega (arith, c.loop-n-test))
@@ -92,8 +92,8 @@ returns g c =
     let e : n ≡ 32 = omega (arith, c.loop-n-test, c.loop-n.invariant.3) in
     did_ok (90 * n) 2880 k0 k1 s0 s1 tt _ (omega arith) A1 (record { calm = ca; rests = inr (subst (λ m. Gives m k0 s0 k1 s1) e gi) })
 
-pub returns-in-err-step : goal.returns-in-err-step
-returns-in-err-step g c =
+pub returns-in_err-step : goal.returns-in_err-step
+returns-in_err-step g c =
     let K = g.K.Desk.kern in
     let S = g.K.Desk.seen in
     let k0 = K c.args.k.now in
@@ -104,4 +104,4 @@ returns-in-err-step g c =
     let ca = c.loop-n.invariant.1 in
     let gi = c.loop-n.invariant.2 in
     let n = c.loop-n.n in
-    did_lost (90 * n + 90) 2880 k0 (K c.step.new.k) s0 (S c.step.new.k) c.from-residual.result _ (omega (arith, c.loop-n-test)) c.from-residual.ensures.0 (after_then (90 * n) 90 k0 k1 (K c.step.new.k) s0 s1 (S c.step.new.k) false A1 c.in-err-step.ensures.after)
+    did_lost (90 * n + 90) 2880 k0 (K c.step.new.k) s0 (S c.step.new.k) c.from_residual.result _ (omega (arith, c.loop-n-test)) c.from_residual.ensures.0 (after_then (90 * n) 90 k0 k1 (K c.step.new.k) s0 s1 (S c.step.new.k) false A1 c.in_err-step.ensures.after)
