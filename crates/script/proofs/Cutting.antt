@@ -1,5 +1,6 @@
 -- A text is cut at its blanks. Assumes nothing.
-use Rattle.std.proofs.Common.{◌≡◌, ℕ, zero, suc, ◌+◌, ◌^◌, ◌<◌, ◌≤◌, Bool, true, false, cond, ◌&&◌, leb, ◌⊎◌, List, [], ◌∷◌, ◌++◌, length, get_or, take, drop, decimal, All, sym, refl, ap, ◌∙◌, subst, inl, inr, ⊎_elim, append_assoc, append-nil, arith, length-append, take-append-drop}
+use Rattle.std.proofs.Common.{◌≡◌, ℕ, zero, suc, ◌+◌, ◌^◌, ◌<◌, ◌≤◌, Bool, true, false, cond, ◌&&◌, leb, ◌⊎◌, List, [], ◌∷◌, ◌++◌, length, get_or, take, drop, decimal, sym, refl, ap, ◌∙◌, subst, inl, inr, ⊎_elim, append_assoc, append-nil, arith, length-append, take-append-drop}
+use Rattle.std.specs.List.{AllByRecursion}
 use Rattle.std.specs.Str.{bytes_eq}
 use Rattle.std.proofs.lemmas.Fmt.{decimal_injective}
 use Rattle.std.proofs.lemmas.Slice.Eq.{bytes_eq-Decides}
@@ -108,7 +109,7 @@ module _ (ts : List Token) (w : List ℕ) (i : ℕ) (d : Token) (so_far : lookup
   no_more h = ap (λ x. lookup x w) (sym (drop_all i ts h)) ∙ so_far
 
 -- what is found has that text
-lookup_text : (ts : List Token) (w : List ℕ) → All (λ t. word_text t ≡ spelt t) ts → Readable (lookup ts w) → w ≡ spelt (lookup ts w)
+lookup_text : (ts : List Token) (w : List ℕ) → AllByRecursion (λ t. word_text t ≡ spelt t) ts → Readable (lookup ts w) → w ≡ spelt (lookup ts w)
 unfolding lookup
 lookup_text [] w a r = absurd r
 lookup_text (t ∷ ts) w a r =
@@ -120,19 +121,19 @@ lookup_text (t ∷ ts) w a r =
     ] in
     go (bytes_eq (word_text t) w) refl r
 
-all_words : All (λ t. word_text t ≡ spelt t) table
+all_words : AllByRecursion (λ t. word_text t ≡ spelt t) table
 unfolding spelt
 all_words = (refl, (refl, (refl, (refl, (refl, (refl, (refl, (refl, (refl, (refl, (refl, (refl, (refl, (refl, (refl, (refl, (refl, (refl, (refl, (refl, (refl, (refl, (refl, tt)))))))))))))))))))))))
 
 not_end : (t : Token) → is_end t ≡ false → t ≡ End → ⊥
 not_end t f e = true≢false (sym (ap is_end e) ∙ f)
 
-lookup_not_end : (ts : List Token) (w : List ℕ) → All (λ t. is_end t ≡ false) ts → is_end (lookup ts w) ≡ false
+lookup_not_end : (ts : List Token) (w : List ℕ) → AllByRecursion (λ t. is_end t ≡ false) ts → is_end (lookup ts w) ≡ false
 unfolding lookup
 lookup_not_end [] w a = refl
 lookup_not_end (t ∷ ts) w a = cond_both (bytes_eq (word_text t) w) t (lookup ts w) (λ u. is_end u ≡ false) (λ _. a.0) (λ _. lookup_not_end ts w a.1)
 
-none_ends : All (λ t. is_end t ≡ false) table
+none_ends : AllByRecursion (λ t. is_end t ≡ false) table
 none_ends = (refl, (refl, (refl, (refl, (refl, (refl, (refl, (refl, (refl, (refl, (refl, (refl, (refl, (refl, (refl, (refl, (refl, (refl, (refl, (refl, (refl, (refl, (refl, tt)))))))))))))))))))))))
 
 -- a keyword is no number

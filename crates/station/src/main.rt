@@ -4,6 +4,7 @@
 ghost use Rattle.std.specs.Prelude.{◌≤◌, length, IfOk};
 
 use std::io::{Read, Write};
+use std::process::ExitCode;
 use std::{fmt, io};
 
 // The longest script; one byte more tells whether it's longer.
@@ -91,9 +92,12 @@ fn run(
     done
 }
 
-fn main(rt: HostRuntime) -> Result<(), Fault> {
+fn main(rt: HostRuntime) -> ExitCode {
     let mut script = [0u8; SCRIPT];
     let mut memory = [0u64; MEMORY];
     let mut out = [0u8; OUT];
-    run(&rt, &mut script, &mut memory, &mut out)
+    match run(&rt, &mut script, &mut memory, &mut out) {
+        Ok(()) => ExitCode::SUCCESS,
+        Err(_) => ExitCode::FAILURE,
+    }
 }

@@ -15,6 +15,6 @@ loop-i-init c = (refl, sym (append-nil _))
 
 pub loop-i-preserved : goal.loop-i-preserved
 loop-i-preserved c = (
-  c.print-note.ensures.size ∙ c.loop-i.invariant.0,
-  one_more _ _ _ c.args.machine.now.notes.now c.loop-i.i c.note-at.result c.loop-i.invariant.1 c.note-at.ensures (c.print-note.ensures.printed.yes c.if-not-print-note.false),
+  c.print_note.ensures.size ∙ c.loop-i.invariant.0,
+  one_more _ _ _ c.args.machine.now.notes.now c.loop-i.i c.note_at.result c.loop-i.invariant.1 c.note_at.ensures (c.print_note.ensures.printed.yes c.if-not-print_note.false),
 )

@@ -8,4 +8,4 @@ returns c =
     let n = c.find-end.result in
     let same : n - 0 ≡ n = omega arith in
     let found = c.find-end.ensures in
-    headed c.args.text.now n c.token-of.result _ (rw same at c.token-of.ensures) (take_rest c.args.text.now n) found.within found.before found.found
+    headed c.args.text.now n c.token_of.result _ (rw same at c.token_of.ensures) (take_rest c.args.text.now n) found.within found.before found.found

@@ -15,11 +15,11 @@ returns-then-b-lt48 c n small e =
     let h = digit c.args.word.now n small e c.loop-b.b-index c.loop-b-test.true in
     elim c.then-b-lt48.branch [ then-b-lt48-via-then-b-lt48 w ↦ omega (arith, w.if-b-lt48.true, h.0) | then-b-lt48-via-else-b-lt48+then-b-gt57 w ↦ omega (arith, w.if-b-gt57.true, h.1) ]
 
-pub overflow-mul-n : goal.overflow-mul-n
-overflow-mul-n c = omega (arith, few c.args.word.now c.loop-b.b-index c.loop-b.invariant.1 c.if-word-gt10.false)
+pub overflow_mul-n : goal.overflow_mul-n
+overflow_mul-n c = omega (arith, few c.args.word.now c.loop-b.b-index c.loop-b.invariant.1 c.if-word-gt10.false)
 
-pub overflow-add-n : goal.overflow-add-n
-overflow-add-n c = omega (arith, few c.args.word.now c.loop-b.b-index c.loop-b.invariant.1 c.if-word-gt10.false)
+pub overflow_add-n : goal.overflow_add-n
+overflow_add-n c = omega (arith, few c.args.word.now c.loop-b.b-index c.loop-b.invariant.1 c.if-word-gt10.false)
 
 pub loop-b-preserved : goal.loop-b-preserved
 loop-b-preserved c =

@@ -5,7 +5,7 @@ use Rattle.memory.proofs.machine.Machine.ask.Goals as goal
 
 pub returns-then-pid-ge64 : goal.returns-then-pid-ge64
 returns-then-pid-ge64 c =
-    let n = c.note-if-room.ensures in
+    let n = c.note_if_room.ensures in
     let no = runs_past c.args.self.now.runs c.args.pid (search rules) in
     record {
       followed = aside_follows c.args.pid c.args.call _ c.args.self.now _ _ (gone_note c.args.pid c.args.call (kern_of c.args.self.now) no) (gone_kern c.args.pid c.args.call (kern_of c.args.self.now) no) n.kernel n.room n.done n.refused;
@@ -16,7 +16,7 @@ returns-then-pid-ge64 c =
 pub returns-then-not-self-p : goal.returns-then-not-self-p
 unfolding runs_of
 returns-then-not-self-p c =
-    let n = c.note-if-room-then-not-self-p.ensures in
+    let n = c.note_if_room-then-not-self-p.ensures in
     let no = c.if-not-self-p.true in
     record {
       followed = aside_follows c.args.pid c.args.call _ c.args.self.now _ _ (gone_note c.args.pid c.args.call (kern_of c.args.self.now) no) (gone_kern c.args.pid c.args.call (kern_of c.args.self.now) no) n.kernel n.room n.done n.refused;
@@ -24,11 +24,11 @@ returns-then-not-self-p c =
       lines = n.kept.2;
     }
 
-pub returns-then-not-is-idle : goal.returns-then-not-is-idle
+pub returns-then-not-is_idle : goal.returns-then-not-is_idle
 unfolding runs_of waits_of
-returns-then-not-is-idle c =
-    let n = c.note-if-room-then-not-is-idle.ensures in
-    let no = sym c.is-idle.ensures ∙ c.if-not-is-idle.true in
+returns-then-not-is_idle c =
+    let n = c.note_if_room-then-not-is_idle.ensures in
+    let no = sym c.is_idle.ensures ∙ c.if-not-is_idle.true in
     record {
       followed = aside_follows c.args.pid c.args.call _ c.args.self.now _ _ (busy_note c.args.pid c.args.call (kern_of c.args.self.now) c.if-not-self-p.false no) (busy_kern c.args.pid c.args.call (kern_of c.args.self.now) no) n.kernel n.room n.done n.refused;
       between = between_same _ _ _ _ n.kernel (n.events ∙ cond_same _ _);
@@ -37,4 +37,4 @@ returns-then-not-is-idle c =
 
 pub enter-requires : goal.enter-requires
 unfolding runs_of waits_of
-enter-requires c = record { pid = c.if-pid-ge64.false; runs = c.if-not-self-p.false; idle = idle_none _ (sym c.is-idle.ensures ∙ c.if-not-is-idle.false) }
+enter-requires c = record { pid = c.if-pid-ge64.false; runs = c.if-not-self-p.false; idle = idle_none _ (sym c.is_idle.ensures ∙ c.if-not-is_idle.false) }

@@ -19,7 +19,7 @@ returns c =
     let is = room_is (kern_of c.args.self.now) _ _ c.args.self.now.many c.args.to refl c.if-self-to-ge-BOX.false in
     record {
       room = sym is;
-      kernel = c.put-in.ensures.kernel ∙ sym (cond-true _ _ _ is);
-      events = c.put-in.ensures.events;
-      aside = c.put-in.ensures.aside;
+      kernel = c.put_in.ensures.kernel ∙ sym (cond-true _ _ _ is);
+      events = c.put_in.ensures.events;
+      aside = c.put_in.ensures.aside;
     }

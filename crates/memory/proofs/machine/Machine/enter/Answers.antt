@@ -22,36 +22,36 @@ returns-then-self-to-ge512 c =
     record {
       followed =
           inr (
-            inr (inr (subst (λ s. 512 ≤ length ((kern_of c.args.self.now).box s)) c.server-of-to.ensures.0
-                (subst (λ n. 512 ≤ n) (sym (box_length _ _ c.args.self.now.many c.server-of-to.result)) c.if-self-to-ge512.true))),
+            inr (inr (subst (λ s. 512 ≤ length ((kern_of c.args.self.now).box s)) c.server_of-to.ensures.0
+                (subst (λ n. 512 ≤ n) (sym (box_length _ _ c.args.self.now.many c.server_of-to.result)) c.if-self-to-ge512.true))),
             h.refused,
           );
       between = refused_between c.args.self.now _ _ h.refused;
       lines = h.kept.2;
     }
 
-pub returns-then-not-has-room : goal.returns-then-not-has-room
-returns-then-not-has-room c =
-    let h = c.refuse-then-not-has-room.ensures in
-    record { followed = inr (inl (ltb-false _ _ (sym c.has-room.ensures ∙ c.if-not-has-room.true)), h.refused); between = refused_between c.args.self.now _ _ h.refused; lines = h.kept.2 }
+pub returns-then-not-has_room : goal.returns-then-not-has_room
+returns-then-not-has_room c =
+    let h = c.refuse-then-not-has_room.ensures in
+    record { followed = inr (inl (ltb-false _ _ (sym c.has_room.ensures ∙ c.if-not-has_room.true)), h.refused); between = refused_between c.args.self.now _ _ h.refused; lines = h.kept.2 }
 
-pub put-in-requires : goal.put-in-requires
-put-in-requires c =
+pub put_in-requires : goal.put_in-requires
+put_in-requires c =
     record {
-      server = c.server-of-to.ensures.1;
-      room = subst (λ n. n < 512) (sym (many_same c.args.self.now.mail.now c.note.new.self.mail.now c.args.self.now.first c.note.new.self.first c.args.self.now.many c.note.new.self.many c.server-of-to.result (ap (λ k. k.box) c.note.ensures.beside.kernel))) c.if-self-to-ge512.false;
+      server = c.server_of-to.ensures.1;
+      room = subst (λ n. n < 512) (sym (many_same c.args.self.now.mail.now c.note.new.self.mail.now c.args.self.now.first c.note.new.self.first c.args.self.now.many c.note.new.self.many c.server_of-to.result (ap (λ k. k.box) c.note.ensures.beside.kernel))) c.if-self-to-ge512.false;
     }
 
 pub returns : goal.returns
 unfolding number_of
 returns c =
     let n = c.note.ensures in
-    let p = c.put-in.ensures in
+    let p = c.put_in.ensures in
     let m = c.args.self.now in
     let k =
     p.kernel
-    ∙ (ap (λ k. with_box (kernel.set c.server-of-to.result (k.box c.server-of-to.result ++ (Asks c.args.pid (number_of m.numbers c.args.pid) c.args.call ∷ [])) k.box) k) n.beside.kernel
-    ∙ asked_is (kern_of m) m.waits m.numbers c.args.pid c.server-of-to.result c.args.call refl refl (search rules) (search rules) c.server-of-to.ensures.0) in
+    ∙ (ap (λ k. with_box (kernel.set c.server_of-to.result (k.box c.server_of-to.result ++ (Asks c.args.pid (number_of m.numbers c.args.pid) c.args.call ∷ [])) k.box) k) n.beside.kernel
+    ∙ asked_is (kern_of m) m.waits m.numbers c.args.pid c.server_of-to.result c.args.call refl refl (search rules) (search rules) c.server_of-to.ensures.0) in
     let a = asked_note c.args.pid c.args.call (kern_of m) c.requires.runs c.requires.idle in
     record {
       followed =

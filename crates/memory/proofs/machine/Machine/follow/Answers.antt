@@ -10,7 +10,7 @@ pub returns-in-Key : goal.returns-in-Key
 returns-in-Key c = record { followed = at_line c.args.l _ c.args.self.now _ _ c.in-Key.is c.strike.ensures.followed; between = c.strike.ensures.between; lines = c.strike.ensures.lines }
 
 pub returns-in-Fall : goal.returns-in-Fall
-returns-in-Fall c = record { followed = at_line c.args.l _ c.args.self.now _ _ c.in-Fall.is c.plan-to-fall.ensures.followed; between = c.plan-to-fall.ensures.between; lines = c.plan-to-fall.ensures.lines }
+returns-in-Fall c = record { followed = at_line c.args.l _ c.args.self.now _ _ c.in-Fall.is c.plan_to_fall.ensures.followed; between = c.plan_to_fall.ensures.between; lines = c.plan_to_fall.ensures.lines }
 
 pub returns-then-n-eq0 : goal.returns-then-n-eq0
 returns-then-n-eq0 c =
@@ -39,7 +39,7 @@ returns-in-On c =
 pub returns-in-Falls : goal.returns-in-Falls
 returns-in-Falls c =
     record {
-      followed = at_line c.args.l _ c.args.self.now _ _ c.in-Falls.is (inl record { kernel = refl; noted = (refl, refl); plan = c.plan-chance.ensures; rests = refl; settles = refl; tried = refl; is = refl; goes_on = refl });
+      followed = at_line c.args.l _ c.args.self.now _ _ c.in-Falls.is (inl record { kernel = refl; noted = (refl, refl); plan = c.plan_chance.ensures; rests = refl; settles = refl; tried = refl; is = refl; goes_on = refl });
       between = between_same _ _ _ _ refl refl;
       lines = refl;
     }

@@ -7,7 +7,7 @@ returns-in-End c = record { heeded = at_next c.args.next _ c.args.self.now _ _ c
 
 pub returns-in-Wrong : goal.returns-in-Wrong
 returns-in-Wrong c =
-    let n = c.note-if-room.ensures in
+    let n = c.note_if_room.ensures in
     record {
       heeded = at_next c.args.next _ c.args.self.now _ _ c.in-Wrong.is (wrong_heeded c.in-Wrong.n c.args.self.now _ _ n.kernel n.room n.done n.refused);
       between = between_same _ _ _ _ n.kernel (n.events ∙ cond_same _ _);

@@ -3,11 +3,11 @@ use Rattle.std.proofs.lemmas.Bool.{true≢false, false≢true}
 use Rattle.memory.proofs.Scripts.{refused_seen}
 use Rattle.memory.proofs.machine.Machine.note_if_room.Goals as goal
 
-pub returns-then-not-has-room : goal.returns-then-not-has-room
-returns-then-not-has-room c =
+pub returns-then-not-has_room : goal.returns-then-not-has_room
+returns-then-not-has_room c =
     let h = c.refuse.ensures.refused in
     record {
-      room = h.stops ∙ (sym c.if-not-has-room.true ∙ c.has-room.ensures);
+      room = h.stops ∙ (sym c.if-not-has_room.true ∙ c.has_room.ensures);
       done = λ t. absurd (false≢true (sym h.stops ∙ t));
       refused = λ _. h;
       kernel = h.kernel;
@@ -20,7 +20,7 @@ pub returns : goal.returns
 returns c =
     let n = c.note.ensures in
     record {
-      room = sym c.if-not-has-room.false ∙ c.has-room.ensures;
+      room = sym c.if-not-has_room.false ∙ c.has_room.ensures;
       done = λ _. (n.noted, n.beside.aside);
       refused = λ t. absurd (true≢false t);
       kernel = n.beside.kernel;

@@ -12,10 +12,10 @@ returns-then-server-ge3 c =
       lines = refl;
     }
 
-pub returns-then-not-plan-fall : goal.returns-then-not-plan-fall
-returns-then-not-plan-fall c =
+pub returns-then-not-plan_fall : goal.returns-then-not-plan_fall
+returns-then-not-plan_fall c =
     record {
-      followed = inr (ltb-false _ _ (sym c.plan-fall.ensures.room ∙ c.if-not-plan-fall.true), record { kernel = refl; noted = (refl, refl); plan = c.plan-fall.ensures.full c.if-not-plan-fall.true; state = refl; stops = refl });
+      followed = inr (ltb-false _ _ (sym c.plan_fall.ensures.room ∙ c.if-not-plan_fall.true), record { kernel = refl; noted = (refl, refl); plan = c.plan_fall.ensures.full c.if-not-plan_fall.true; state = refl; stops = refl });
       between = between_same _ _ _ _ refl refl;
       lines = refl;
     }
@@ -23,7 +23,7 @@ returns-then-not-plan-fall c =
 pub returns : goal.returns
 returns c =
     record {
-      followed = inl record { kernel = refl; noted = (refl, refl); plan = inr (c.plan-fall.ensures.added c.if-not-plan-fall.false); rests = refl; settles = refl; tried = refl; is = refl; goes_on = refl };
+      followed = inl record { kernel = refl; noted = (refl, refl); plan = inr (c.plan_fall.ensures.added c.if-not-plan_fall.false); rests = refl; settles = refl; tried = refl; is = refl; goes_on = refl };
       between = between_same _ _ _ _ refl refl;
       lines = refl;
     }

@@ -6,10 +6,10 @@ use Rattle.memory.proofs.Fates.{plan_same}
 use Rattle.memory.proofs.Scripts.{refused_between, typed_once, typed_is}
 use Rattle.memory.proofs.machine.Machine.strike.Goals as goal
 
-pub returns-then-not-has-room : goal.returns-then-not-has-room
-returns-then-not-has-room c =
+pub returns-then-not-has_room : goal.returns-then-not-has_room
+returns-then-not-has_room c =
     record {
-      followed = inr (ltb-false _ _ (sym c.has-room.ensures ∙ c.if-not-has-room.true), c.refuse.ensures.refused);
+      followed = inr (ltb-false _ _ (sym c.has_room.ensures ∙ c.if-not-has_room.true), c.refuse.ensures.refused);
       between = refused_between _ _ _ c.refuse.ensures.refused;
       lines = c.refuse.ensures.kept.2;
     }

@@ -7,7 +7,7 @@ returns-in-Some c =
     let self = c.args.self.now in
     record {
       text = refl;
-      reads = (line_of self.text.now self.at c.line-end-end.result.0 c.line-end-end.result.1 _ self.within c.line-end-end.ensures.line c.in-Some.ensures.1, refl, c.in-Some.ensures.0);
+      reads = (line_of self.text.now self.at c.line_end-end.result.0 c.line_end-end.result.1 _ self.within c.line_end-end.ensures.line c.in-Some.ensures.1, refl, c.in-Some.ensures.0);
     }
 
 pub returns-in-None : goal.returns-in-None
@@ -15,5 +15,5 @@ returns-in-None c =
     let self = c.args.self.now in
     record {
       text = refl;
-      reads = ((_, (line_of self.text.now self.at c.line-end-end.result.0 c.line-end-end.result.1 _ self.within c.line-end-end.ensures.line refl, c.in-None.ensures)), refl, refl);
+      reads = ((_, (line_of self.text.now self.at c.line_end-end.result.0 c.line_end-end.result.1 _ self.within c.line_end-end.ensures.line refl, c.in-None.ensures)), refl, refl);
     }

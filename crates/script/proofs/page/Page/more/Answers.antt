@@ -12,8 +12,8 @@ pub returns-then-put : goal.returns-then-put
 returns-then-put c =
     record {
       size = c.token.ensures.size ∙ c.put.ensures.size;
-      wrote = wrote_as (wrote_both c.put.ensures.wrote c.if-put.true c.put.ensures.size c.token.ensures.wrote) _ (piece_some c.args.t c.in-default.not-End);
+      wrote = wrote_as (wrote_both c.put.ensures.wrote c.if-put.true c.put.ensures.size c.token.ensures.wrote) _ (piece_some c.args.t c.in_default.not-End);
     }
 
 pub returns-else-put : goal.returns-else-put
-returns-else-put c = record { size = c.put.ensures.size; wrote = wrote_as (wrote_first c.put.ensures.wrote c.if-put.false (spelt c.args.t)) _ (piece_some c.args.t c.in-default.not-End) }
+returns-else-put c = record { size = c.put.ensures.size; wrote = wrote_as (wrote_first c.put.ensures.wrote c.if-put.false (spelt c.args.t)) _ (piece_some c.args.t c.in_default.not-End) }

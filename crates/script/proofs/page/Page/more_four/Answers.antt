@@ -2,9 +2,9 @@ use Rattle.std.proofs.Common.{◌∙◌}
 use Rattle.script.proofs.Writing.{wrote_first, wrote_both}
 use Rattle.script.proofs.page.Page.more_four.Goals as goal
 
-pub returns-then-more-two : goal.returns-then-more-two
-returns-then-more-two c =
-    record { size = c.more-two-then-more-two.ensures.size ∙ c.more-two.ensures.size; wrote = wrote_both c.more-two.ensures.wrote c.if-more-two.true c.more-two.ensures.size c.more-two-then-more-two.ensures.wrote }
+pub returns-then-more_two : goal.returns-then-more_two
+returns-then-more_two c =
+    record { size = c.more_two-then-more_two.ensures.size ∙ c.more_two.ensures.size; wrote = wrote_both c.more_two.ensures.wrote c.if-more_two.true c.more_two.ensures.size c.more_two-then-more_two.ensures.wrote }
 
-pub returns-else-more-two : goal.returns-else-more-two
-returns-else-more-two c = record { size = c.more-two.ensures.size; wrote = wrote_first c.more-two.ensures.wrote c.if-more-two.false _ }
+pub returns-else-more_two : goal.returns-else-more_two
+returns-else-more_two c = record { size = c.more_two.ensures.size; wrote = wrote_first c.more_two.ensures.wrote c.if-more_two.false _ }

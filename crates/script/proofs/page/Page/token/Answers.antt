@@ -21,5 +21,5 @@ unfolding spelt
 returns-else-number c =
     record { size = c.number-in-Asked.ensures.size; wrote = wrote_as (wrote_first c.number-in-Asked.ensures.wrote c.if-number.false (63 ∷ [])) _ (ap spelt (sym c.in-Asked.is)) }
 
-pub returns-in-default : goal.returns-in-default
-returns-in-default c = record { size = c.put-in-default.ensures.size; wrote = wrote_as c.put-in-default.ensures.wrote _ (c.word-text.ensures ∙ spelt_word c.args.t c.in-default.not-Num c.in-default.not-Asked) }
+pub returns-in_default : goal.returns-in_default
+returns-in_default c = record { size = c.put-in_default.ensures.size; wrote = wrote_as c.put-in_default.ensures.wrote _ (c.word_text.ensures ∙ spelt_word c.args.t c.in_default.not-Num c.in_default.not-Asked) }
