@@ -1,25 +1,25 @@
 -- From what the cells say to the moment of each call, as on the machine that never falls.
 -- Assumes nothing.
-use Rattle.std.proofs.Common.{◌≡◌, ℕ, zero, suc, ◌+◌, ◌-◌, ◌*◌, ◌/◌, ◌%◌, ◌<◌, ◌≤◌, Bool, true, false, cond, not, ◌&&◌, ◌||◌, T, eqb, ltb, leb, ◌⊎◌, List, [], ◌∷◌, ◌++◌, length, get_or, Some, None, sym, refl, ap, ◌∙◌, subst, subst₂, inl, inr, ⊎_elim, arith}
+use Rattle.std.proofs.Common.{◌≡◌, ℕ, zero, suc, ◌+◌, ◌-◌, ◌*◌, ◌%◌, ◌<◌, ◌≤◌, Bool, true, false, cond, not, ◌&&◌, ◌||◌, T, eqb, leb, ◌⊎◌, List, [], ◌∷◌, length, get_or, Some, None, sym, refl, ap, ◌∙◌, subst, subst₂, inl, ⊎_elim, arith}
 use Rattle.std.proofs.lemmas.Bool.Decides.{nat_tests as tests}
 use Rattle.std.proofs.lemmas.Bool.{cases_eq}
 use Rattle.heal.specs.declared.Call.{Call}
 use Rattle.heal.specs.declared.Call.TheVariants.{Spawn, Exit, Wait, Kill, Open, Close, Read, Write, Remove, Take, Leave, Say, Hear}
 use Rattle.heal.specs.declared.Answer.{Answer}
 use Rattle.heal.specs.declared.Answer.TheVariants.{Done, No, Word, Handle}
-use Rattle.heal.specs.Kernel.{Event, Kern, Pending, Some', server_of, set, kept, key_at, cells_of}
+use Rattle.heal.specs.Kernel.{Event, Kern, server_of, set, kept, key_at, cells_of}
 use Rattle.heal.specs.House.{Proc, Nobody, Living, Now, Quiet, Under, Over, State, Run, Gives, Waits, Outcome, does, fits, ends, core, waits_in, child_of, some', nobody, set_now, set_desk, put, acts, refuses, not_built, Empty, Missing, There, give_hand, set_file, write_in, words}
 use Rattle.heal.specs.Promise.{can}
 use Rattle.heal.specs.Files.{FilesAre, size_at, users_at, hand_at, word_at, name_in, writes_in, open_cells, close_cells, write_cells, remove_cells, opened_by}
 use Rattle.heal.specs.Journal.{kept_all, Within}
-use Rattle.heal.specs.Invariant.{Inv, Who, Early, DeskIs, Shut, Moves, Before, Common, last, done, sweep, shown_in, heard_in, owner_in, ahead}
+use Rattle.heal.specs.Invariant.{Inv, Who, Early, DeskIs, Shut, Before, Common, sweep, shown_in, heard_in, owner_in, ahead}
 use Rattle.heal.specs.Deciding.{Standing, Apart, Decided}
 use Rattle.heal.proofs.Lawful.{Lawful}
 use Rattle.heal.proofs.FileCells.{some_none, files_same}
 use Rattle.heal.proofs.Standing.{lawful}
 use Rattle.heal.proofs.Mail.{set_same}
 use Rattle.heal.proofs.FileCalls.{open_no1, open_no2, open_no8, open_no13, open_done, close_no4, close_done, read_no4, read_no5, read_done, write_no4, write_no6, write_no5, write_done, remove_no1, remove_no2, remove_no8, remove_done}
-use Rattle.heal.proofs.Moments.{even_other, same_call}
+use Rattle.heal.proofs.Moments.{even_other}
 
 -- whether c says a word
 abbrev NotSay : Call → Type 0

@@ -3,7 +3,7 @@
 use Rattle.std.proofs.Common.{◌≡◌, ℕ, ◌+◌, ◌-◌, ◌%◌, ◌<◌, ◌≤◌, Bool, true, false, not, ◌||◌, T, leb, ◌⊎◌, length, sym, refl, ap, ◌∙◌, subst, subst₂, arith}
 use Rattle.heal.specs.declared.Call.TheVariants.{Open, Close, Read, Write, Remove}
 use Rattle.heal.specs.declared.Answer.TheVariants.{Done, No, Handle, Word}
-use Rattle.heal.specs.House.{Missing, There, Empty, On, State, Gives, some', first, missing, words, is_empty, opened, clash, set_file, give_hand, write_in, does}
+use Rattle.heal.specs.House.{Missing, There, Empty, On, State, Gives, some', first, missing, words, is_empty, clash, set_file, give_hand, write_in, does}
 use Rattle.heal.specs.Files.{size_at, users_at, hand_at, word_at, name_in, writes_in, FilesAre, open_cells, close_cells, write_cells, remove_cells, opened_by}
 use Rattle.heal.proofs.Lawful.{Lawful, some_at}
 use Rattle.heal.proofs.FileCells.{zero_test, not_zero_test, is_eq, not_eq, holds, true_from, may_open, clash_true, clash_false, no_handle_from, past, some_none, first_is, any_open, clash_at, missing_at, length_at, empty_at, on_at, handle_bounds, does_close, does_close_no4, does_open, does_open_no1, does_open_no13, does_open_no2, does_open_no8, does_read, does_read_no4, does_read_no5, does_remove, does_remove_no1, does_remove_no2, does_remove_no8, does_write, does_write_no4, does_write_no5, does_write_no6}

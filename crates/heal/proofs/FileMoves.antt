@@ -4,7 +4,6 @@ use Rattle.std.proofs.Common.{◌≡◌, ℕ, ◌+◌, ◌-◌, ◌*◌, ◌<◌
 use Rattle.std.proofs.lemmas.Bool.Decides.{nat_tests as tests}
 use Rattle.std.proofs.lemmas.Bool.{cases_eq}
 use Rattle.std.proofs.lemmas.List.{length-set, length_push, get_or-set_same, get_or-set_other, get_or_append_left, get_or_push}
-use Rattle.heal.specs.declared.Call.TheVariants.{Open, Close, Write, Remove}
 use Rattle.heal.specs.House.{File, Missing, There, Hand, Empty, On, State, put, some', missing, words, is_on, is_empty, name_of, opened, write_in}
 use Rattle.heal.specs.Files.{size_at, users_at, hand_at, word_at, name_in, writes_in, hand_of, size_of, tally, users_from, FilesAre, open_cells, close_cells, write_cells, remove_cells}
 use Rattle.heal.proofs.Lawful.{none_at}

@@ -1,23 +1,21 @@
 -- What is decided stays decided while the answer's words are written; and then it's done.
 -- Assumes nothing.
-use Rattle.std.proofs.Common.{◌≡◌, ℕ, zero, suc, ◌+◌, ◌-◌, ◌*◌, ◌<◌, ◌≤◌, Bool, true, false, cond, not, ◌&&◌, ◌||◌, T, eqb, ltb, leb, ◌⊎◌, List, [], ◌∷◌, ◌++◌, length, sym, refl, ap, ◌∙◌, subst, subst₂, inl, inr, ⊎_elim, append_assoc, arith, length-append}
+use Rattle.std.proofs.Common.{◌≡◌, ℕ, ◌+◌, ◌<◌, ◌≤◌, true, cond, ◌&&◌, eqb, ◌⊎◌, List, [], ◌∷◌, ◌++◌, length, sym, refl, ap, ◌∙◌, subst, subst₂, inl, inr, append_assoc, arith, length-append}
 use Rattle.std.proofs.lemmas.Bool.Decides.{nat_tests as tests}
 use Rattle.heal.specs.declared.Call.{Call}
 use Rattle.heal.specs.declared.Answer.{Answer}
 use Rattle.heal.specs.declared.Answer.TheVariants.{Done}
 use Rattle.heal.specs.declared.decision.Decision.{Decision}
 use Rattle.heal.specs.declared.decision.Decision.TheVariants.{Finish, Pass}
-use Rattle.heal.specs.Kernel.{Event, Kern, server_of, kept, with_cell, cells_of}
-use Rattle.heal.specs.House.{Now, Under, Over, State, Run, waits_in}
-use Rattle.heal.specs.Promise.{can}
+use Rattle.heal.specs.Kernel.{Event, Kern, server_of, kept, with_cell}
+use Rattle.heal.specs.House.{Under, Over, State, waits_in}
 use Rattle.heal.specs.Codec.{answer_of}
-use Rattle.heal.specs.Files.{FilesAre}
 use Rattle.heal.specs.Journal.{viewed, kept_all, Within, with_left}
 use Rattle.heal.specs.Transaction.{pairs_of}
-use Rattle.heal.specs.Invariant.{Inv, Who, DeskIs, Shut, Moves, Before, Common, last, done, owed, ready, sweep, shown_in, ahead, plus}
+use Rattle.heal.specs.Invariant.{Inv, Moves, Before, Common, last, owed, ready, ahead, plus}
 use Rattle.heal.specs.Ready.{FirstFrom}
 use Rattle.heal.specs.Deciding.{Standing, Apart, Decided, Chosen, Finishes, Noted}
-use Rattle.heal.specs.Turn.{After, Exact, Keeps, cells, Gives, Finished, Calm, Stepped}
+use Rattle.heal.specs.Turn.{After, Exact, Keeps, cells, Finished}
 use Rattle.heal.proofs.FileCells.{files_same}
 use Rattle.heal.proofs.Kept.{kept_same, desk_other, loose}
 use Rattle.heal.proofs.Moments.{before, finish_kept, pass_kept}

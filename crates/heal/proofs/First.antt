@@ -1,6 +1,6 @@
 -- The first message.
 -- Assumes nothing.
-use Rattle.std.proofs.Common.{◌≡◌, ℕ, ◌+◌, ◌*◌, ◌<◌, ◌≤◌, Bool, true, false, cond, not, List, [], ◌∷◌, length, Some, None, Option, sym, refl, ap, ◌∙◌, subst, arith}
+use Rattle.std.proofs.Common.{◌≡◌, ℕ, ◌+◌, ◌<◌, List, [], ◌∷◌, Some, None, Option, refl, subst, arith}
 use Rattle.heal.specs.declared.Call.{Call}
 use Rattle.heal.specs.declared.Msg.{Msg}
 use Rattle.heal.specs.declared.Msg.TheVariants.{Asks, Tells}

@@ -1,23 +1,22 @@
 -- One lemma for each kind of ask: it keeps Inv with whatever credits, and some give more. Kernels here have logical cells.
 -- Assumes nothing.
-use Rattle.std.proofs.Common.{◌≡◌, ℕ, zero, suc, ◌+◌, ◌-◌, ◌*◌, ◌<◌, ◌≤◌, Bool, true, false, cond, not, ◌&&◌, ◌||◌, T, eqb, ltb, leb, ◌⊎◌, List, [], ◌∷◌, ◌++◌, length, sym, refl, ap, ◌∙◌, subst, subst₂, inl, inr, arith}
+use Rattle.std.proofs.Common.{◌≡◌, ℕ, ◌+◌, ◌-◌, ◌*◌, ◌<◌, ◌≤◌, Bool, true, false, cond, ◌&&◌, T, eqb, leb, ◌⊎◌, List, [], ◌∷◌, length, sym, refl, ap, ◌∙◌, subst, subst₂, inl, inr, arith}
 use Rattle.std.proofs.lemmas.Bool.Decides.{nat_tests as tests}
 use Rattle.heal.specs.declared.Call.{Call}
 use Rattle.heal.specs.declared.Answer.{Answer}
 use Rattle.heal.specs.declared.Answer.TheVariants.{Done}
 use Rattle.heal.specs.declared.Msg.{Msg}
-use Rattle.heal.specs.declared.Msg.TheVariants.{Asks, Tells}
-use Rattle.heal.specs.Kernel.{Event, Kern, Pending, None', Some', is_call, server_of, set, tail, kept, taken}
-use Rattle.heal.specs.House.{Now, Quiet, Under, Over, State, Run, waits_in}
-use Rattle.heal.specs.Promise.{can}
+use Rattle.heal.specs.declared.Msg.TheVariants.{Asks}
+use Rattle.heal.specs.Kernel.{Event, Kern, Pending, Some', is_call, server_of, tail, kept, taken}
+use Rattle.heal.specs.House.{Now, Under, Over, State}
 use Rattle.heal.specs.Codec.{call_of, answer_of}
 use Rattle.heal.specs.Ready.{has}
-use Rattle.heal.specs.Invariant.{Has, All, MsgOk, Fresh, Mail, Waiting, Who, Numbers, Sweeps, Early, DeskIs, Shut, Moves, Before, Rel, Inv, last, done, call_at, owed, ready, sweep, shown_in, heard_in, owner_in, ahead, pos, far, hops, occ}
+use Rattle.heal.specs.Invariant.{All, MsgOk, Mail, Waiting, Early, DeskIs, Inv, last, done, call_at, owed, ready, sweep, shown_in, ahead, pos, far, hops}
 use Rattle.std.proofs.lemmas.Bool.{cases_eq}
 use Rattle.heal.specs.Ready.{FirstFrom}
-use Rattle.heal.specs.Invariant.{plus, credit, nothing}
+use Rattle.heal.specs.Invariant.{plus, credit}
 use Rattle.heal.proofs.FileCells.{files_same}
-use Rattle.heal.proofs.Mail.{set_same, mail_same, mail_empty, mail_tail, mail_last, far_top, far_rest, far_own, far_over, far_on, far_told, far_begin}
+use Rattle.heal.proofs.Mail.{mail_same, mail_tail, mail_last, far_top, far_on, far_begin}
 
 -- the desk under other cells: what the sweep stands at stays, and is only accepted more
 pub desk_other : (d e : ℕ → ℕ) (screen keys : List ℕ) (pending : ℕ → Pending) (s : State) → e 52 ≡ d 52 → e 53 ≡ d 53 → e 54 ≡ d 54 → e 32 ≡ d 32 → ((q : ℕ) → q < 64 → last d q ≤ last e q) → ((q : ℕ) → q < 64 → done e q ≡ done d q) → DeskIs d screen keys pending s → DeskIs e screen keys pending s

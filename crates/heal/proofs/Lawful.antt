@@ -1,11 +1,11 @@
 -- What holds of every state of the machine that never falls: the family, the handles, the desk.
 -- Assumes nothing.
-use Rattle.std.proofs.Common.{◌≡◌, ℕ, zero, suc, ◌+◌, ◌-◌, ◌<◌, ◌≤◌, Bool, true, false, cond, not, ◌&&◌, ◌||◌, T, eqb, ltb, leb, ◌⊎◌, List, [], ◌∷◌, ◌++◌, length, sym, refl, ap, ◌∙◌, subst, subst₂, inl, inr, arith}
+use Rattle.std.proofs.Common.{◌≡◌, ℕ, zero, suc, ◌+◌, ◌<◌, ◌≤◌, Bool, true, false, cond, not, ◌&&◌, ◌||◌, T, eqb, ltb, ◌⊎◌, sym, refl, ap, ◌∙◌, subst, subst₂, arith}
 use Rattle.std.proofs.lemmas.Bool.Decides.{nat_tests as tests}
 use Rattle.heal.specs.declared.Call.{Call}
 use Rattle.heal.specs.declared.Call.TheVariants.{Spawn, Exit, Wait, Kill, Open, Close, Read, Write, Remove, Take, Leave, Say, Hear}
 use Rattle.heal.specs.declared.Answer.{Answer}
-use Rattle.heal.specs.House.{Proc, Nobody, Living, Dead, Hand, Empty, On, Now, Quiet, Under, Over, State, Outcome, Gives, Waits, fresh, put, some', first, living, dead, nobody, parent_of, child_of, below, may_kill, is_on, is_empty, opened, clash, up_to1, dies, does, fits, ends, give_hand, set_file, set_proc, set_desk, set_now, There, missing}
+use Rattle.heal.specs.House.{Proc, Nobody, Living, Dead, Hand, Empty, On, Now, Quiet, Under, Over, State, Gives, put, some', first, living, dead, nobody, parent_of, child_of, below, may_kill, is_on, is_empty, clash, up_to1, dies, does, ends, give_hand, set_proc, set_desk, set_now}
 
 -- who is whose child, with ranks by birth: a parent's is lower
 pub record Kin (proc : ℕ → Proc) (rank : ℕ → ℕ) (top : ℕ) : Type 0 where

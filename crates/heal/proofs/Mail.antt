@@ -1,13 +1,13 @@
 -- Messages in lists, and the measure. Whatever is an induction; `grind` does the rest.
 -- Assumes nothing.
-use Rattle.std.proofs.Common.{◌≡◌, ℕ, zero, suc, ◌+◌, ◌-◌, ◌*◌, ◌<◌, ◌≤◌, Bool, true, false, cond, ◌&&◌, T, eqb, ltb, leb, List, [], ◌∷◌, ◌++◌, length, sym, refl, ap, subst, arith}
+use Rattle.std.proofs.Common.{◌≡◌, ℕ, zero, suc, ◌+◌, ◌<◌, ◌≤◌, Bool, true, false, cond, T, eqb, ltb, List, [], ◌∷◌, ◌++◌, length, sym, refl, subst, arith}
 use Rattle.std.proofs.lemmas.Bool.Decides.{nat_tests as tests}
 use Rattle.heal.specs.declared.Call.{Call}
 use Rattle.heal.specs.declared.Msg.{Msg}
 use Rattle.heal.specs.declared.Msg.TheVariants.{Asks, Tells}
 use Rattle.heal.specs.Kernel.{Pending, None', Some', is_call, server_of, set, tail}
 use Rattle.heal.specs.House.{every}
-use Rattle.heal.specs.Invariant.{Has, All, MsgOk, Fresh, Mail, occ, pos, far, hops, last, done}
+use Rattle.heal.specs.Invariant.{Has, All, MsgOk, Fresh, Mail, occ, pos, far, last, done}
 
 pub set_same : {A : Type 0} (p : ℕ) (x : A) (f : ℕ → A) → set p x f p ≡ x
 set_same p x f = grind (arith, tests)

@@ -1,20 +1,18 @@
 -- The moment of a call, whatever it does; a call that waits is passed over; a word is shown.
 -- Assumes nothing.
-use Rattle.std.proofs.Common.{◌≡◌, ℕ, zero, suc, ◌+◌, ◌-◌, ◌*◌, ◌<◌, ◌≤◌, Bool, true, false, cond, not, ◌&&◌, ◌||◌, T, eqb, ltb, leb, ◌⊎◌, List, [], ◌∷◌, ◌++◌, length, sym, refl, ap, ◌∙◌, subst, subst₂, inl, inr, ⊎_elim, arith, length-append}
+use Rattle.std.proofs.Common.{◌≡◌, ℕ, ◌+◌, ◌*◌, ◌<◌, ◌≤◌, Bool, true, false, cond, ◌&&◌, eqb, leb, ◌⊎◌, List, [], ◌∷◌, ◌++◌, length, sym, refl, ap, ◌∙◌, subst, subst₂, inl, inr, ⊎_elim, arith, length-append}
 use Rattle.std.proofs.lemmas.Bool.Decides.{nat_tests as tests}
 use Rattle.std.proofs.lemmas.Bool.{cases_eq}
 use Rattle.heal.specs.declared.Call.{Call}
 use Rattle.heal.specs.declared.Call.TheVariants.{Say}
 use Rattle.heal.specs.declared.Answer.{Answer}
 use Rattle.heal.specs.declared.Answer.TheVariants.{Done}
-use Rattle.heal.specs.declared.Msg.{Msg}
 use Rattle.heal.specs.Kernel.{Event, Shown, Kern, Pending, None', Some', server_of, kept, with_cell, with_screen, showed, shows}
 use Rattle.heal.specs.House.{Now, Quiet, Under, Over, State, Run, waits_in, set_now, set_desk, shows as run-shows}
 use Rattle.heal.specs.Promise.{can}
-use Rattle.heal.specs.Codec.{call_of, answer_of}
-use Rattle.heal.specs.Ready.{has, FirstFrom}
-use Rattle.heal.specs.Files.{FilesAre}
-use Rattle.heal.specs.Invariant.{Has, Mail, Waiting, Who, Numbers, Sweeps, Early, DeskIs, Shut, Moves, Before, Common, Rel, Inv, last, done, call_at, owed, ready, sweep, shown_in, heard_in, owner_in, ahead, far, hops, plus}
+use Rattle.heal.specs.Codec.{answer_of}
+use Rattle.heal.specs.Ready.{FirstFrom}
+use Rattle.heal.specs.Invariant.{Mail, Waiting, Numbers, Sweeps, Early, DeskIs, Moves, Before, Common, Inv, last, done, owed, ready, sweep, shown_in, heard_in, owner_in, ahead, hops, plus}
 use Rattle.heal.proofs.FileCells.{files_same}
 use Rattle.heal.proofs.Mail.{set_same, mail_same, mail_empty, far_own}
 use Rattle.heal.proofs.Kept.{desk_other, desk_even, early_same, kept_same, kept_here, waiting_swept}

@@ -1,11 +1,10 @@
 -- The screen's places are shown in order.
 -- Assumes nothing.
-use Rattle.std.proofs.Common.{◌≡◌, ℕ, zero, suc, ◌+◌, ◌-◌, ◌<◌, ◌≤◌, Bool, true, false, cond, not, ◌&&◌, ◌||◌, T, eqb, ltb, leb, List, [], ◌∷◌, ◌++◌, length, sym, refl, ap, ◌∙◌, subst, arith, length-append}
+use Rattle.std.proofs.Common.{◌≡◌, ℕ, suc, List, [], ◌∷◌, ◌++◌, length, sym, refl, ap, ◌∙◌, arith, length-append}
 use Rattle.std.proofs.lemmas.Bool.Decides.{nat_tests as tests}
 use Rattle.heal.specs.declared.Call.{Call}
 use Rattle.heal.specs.declared.Answer.{Answer}
-use Rattle.heal.specs.Kernel.{Event}
-use Rattle.heal.specs.House.{State, Run, does, Gives, begin, asks, types, acts, refuses, exits, not_built, shows, tells, begins, stops, round}
+use Rattle.heal.specs.House.{State, does, Gives, begin, asks, types, acts, refuses, exits, not_built, shows, tells, begins, stops, round}
 use Rattle.heal.specs.Promise.{places_of, down, ScreenInOrder}
 
 -- what a call does, it does not to the screen

@@ -1,30 +1,29 @@
 -- A word shown, and what handlers read: as facts about the cells at the start of a decision.
 -- Assumes nothing.
-use Rattle.std.proofs.Common.{◌≡◌, ℕ, zero, suc, ◌+◌, ◌-◌, ◌*◌, ◌/◌, ◌%◌, ◌<◌, ◌≤◌, Bool, true, false, cond, not, ◌&&◌, ◌||◌, T, eqb, ltb, leb, ◌⊎◌, List, [], ◌∷◌, ◌++◌, length, is_ok, Result, sym, refl, ap, ◌∙◌, subst, subst₂, inl, inr, ⊎_elim, arith, length-append}
+use Rattle.std.proofs.Common.{◌≡◌, ℕ, ◌+◌, ◌<◌, ◌≤◌, Bool, true, false, cond, not, T, eqb, List, [], ◌∷◌, ◌++◌, length, is_ok, Result, sym, refl, ap, ◌∙◌, subst, subst₂, arith, length-append}
 use Rattle.std.proofs.lemmas.Bool.Decides.{nat_tests as tests}
 use Rattle.heal.specs.declared.Down.{Down}
 use Rattle.heal.specs.declared.Call.{Call}
-use Rattle.heal.specs.declared.Call.TheVariants.{Spawn, Exit, Wait, Kill, Open, Close, Read, Write, Remove, Take, Leave, Say, Hear}
-use Rattle.heal.specs.declared.Answer.{Answer}
+use Rattle.heal.specs.declared.Call.TheVariants.{Say}
 use Rattle.heal.specs.declared.Answer.TheVariants.{No}
 use Rattle.heal.specs.declared.decision.Decision.{Decision}
-use Rattle.heal.specs.declared.decision.Decision.TheVariants.{Finish, Pass}
+use Rattle.heal.specs.declared.decision.Decision.TheVariants.{Pass}
 use Rattle.heal.specs.Kernel.{Event, Kern, Does, Some', server_of, kept, with_screen, showed, shows, cells_of}
-use Rattle.heal.specs.House.{Explained, core}
+use Rattle.heal.specs.House.{Explained}
 use Rattle.heal.specs.Promise.{can}
-use Rattle.heal.specs.Journal.{viewed, own, with_left, kept_all}
+use Rattle.heal.specs.Journal.{viewed, own, with_left}
 use Rattle.heal.specs.Ready.{FirstFrom}
 use Rattle.heal.specs.Files.{hand_at, size_at, users_at, name_in}
-use Rattle.heal.specs.Invariant.{Inv, Early, DeskIs, last, done, sweep, ready, owner_in, shown_in, heard_in, nothing, plus}
-use Rattle.heal.specs.Deciding.{Standing, Decided, Chosen, Onscreen, Finishes}
-use Rattle.heal.specs.Turn.{Able, After, Did, Exact, Keeps, cells, Calm, Stepped, Gives, Finished, InSlot}
+use Rattle.heal.specs.Invariant.{Inv, last, done, sweep, ready, owner_in, shown_in, heard_in, nothing, plus}
+use Rattle.heal.specs.Deciding.{Standing, Chosen, Onscreen, Finishes}
+use Rattle.heal.specs.Turn.{Able, Did, Keeps, cells}
 use Rattle.heal.proofs.Kept.{loose}
 use Rattle.heal.proofs.Moments.{show_kept}
 use Rattle.heal.proofs.Atomics.{stood, does_sound, does_viewed, does_atomic}
 use Rattle.heal.proofs.Meant.{cells_sound, showed_viewed, showed_cells}
-use Rattle.heal.proofs.Steps.{atomic_did, did_and, inv_exact}
+use Rattle.heal.proofs.Steps.{atomic_did, did_and}
 use Rattle.heal.proofs.FileCells.{handle_bounds, users_small}
-use Rattle.heal.proofs.Finishing.{chosen_from, chosen_exact, pass_gives, standing_left}
+use Rattle.heal.proofs.Finishing.{chosen_from, pass_gives, standing_left}
 use Rattle.heal.proofs.Deciders.{not_built_lem}
 
 cond_as : {X : Type 0} (f : Kern → X) (b : Bool) (x y : Kern) → f x ≡ f y → f (cond b x y) ≡ f y

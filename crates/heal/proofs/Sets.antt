@@ -1,10 +1,10 @@
 -- Bits of a word.
 -- Assumes nothing.
-use Rattle.std.proofs.Common.{◌≡◌, ℕ, zero, suc, ◌+◌, ◌-◌, ◌*◌, ◌/◌, ◌%◌, ◌^◌, ◌<◌, ◌≤◌, Bool, true, false, cond, not, ◌&&◌, ◌||◌, T, eqb, ltb, leb, ◌⊎◌, sym, refl, ap, ◌∙◌, subst, ap₂, inl, inr, ⊎_elim, arith}
-use lib.Bits.{bit_and, bit_or, bit_xor}
+use Rattle.std.proofs.Common.{◌≡◌, ℕ, zero, suc, ◌+◌, ◌-◌, ◌*◌, ◌/◌, ◌%◌, ◌^◌, ◌<◌, Bool, true, false, cond, not, ◌&&◌, ◌||◌, eqb, sym, refl, ap, ◌∙◌, subst, arith}
+use lib.Bits.{bit_or, bit_xor}
 use Rattle.std.proofs.lemmas.Bool.Decides.{nat_tests as tests}
-use Rattle.std.proofs.lemmas.Nat.{pow_pos, pow-add, shl-shr, or_shr, xor_shr, or_mod, xor_mod, and_mask, div_below, pow_below, mod_below, one_shl}
-use Rattle.heal.specs.Ready.{has, FirstFrom}
+use Rattle.std.proofs.lemmas.Nat.{pow_pos, pow-add, shl-shr, or_shr, xor_shr, or_mod, xor_mod, div_below, pow_below, mod_below}
+use Rattle.heal.specs.Ready.{has}
 
 -- one bit
 pow_low : (p q : ℕ) → p < q → 2 ^ p / 2 ^ q % 2 ≡ 0

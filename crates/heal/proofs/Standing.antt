@@ -1,13 +1,13 @@
 -- The machine that never falls stays lawful, whatever is asked.
 -- Assumes nothing.
-use Rattle.std.proofs.Common.{◌≡◌, ℕ, zero, suc, ◌+◌, ◌-◌, ◌<◌, ◌≤◌, Bool, true, false, cond, not, ◌&&◌, ◌||◌, T, eqb, ltb, leb, ◌⊎◌, List, [], ◌∷◌, ◌++◌, sym, refl, ap, ◌∙◌, subst, subst₂, inl, inr, ⊎_elim, arith}
+use Rattle.std.proofs.Common.{◌≡◌, ℕ, zero, suc, ◌+◌, ◌<◌, Bool, true, false, cond, not, ◌&&◌, ◌||◌, T, eqb, ltb, List, [], ◌∷◌, ◌++◌, sym, refl, ap, ◌∙◌, subst, subst₂, ⊎_elim, arith}
 use Rattle.std.proofs.lemmas.Bool.Decides.{nat_tests as tests}
 use Rattle.heal.specs.declared.Call.{Call}
 use Rattle.heal.specs.declared.Call.TheVariants.{Spawn, Exit, Wait, Kill, Open, Close, Read, Write, Remove, Take, Leave, Say, Hear}
 use Rattle.heal.specs.declared.Answer.{Answer}
 use Rattle.heal.specs.declared.Answer.TheVariants.{No, Done}
 use Rattle.heal.specs.Kernel.{Event}
-use Rattle.heal.specs.House.{Proc, Nobody, Living, Dead, Hand, Empty, On, Now, Quiet, Under, Over, State, Outcome, Gives, fresh, put, some', first, living, dead, nobody, parent_of, child_of, below, may_kill, clash, up_to1, dies, does, fits, ends, give_hand, set_proc, set_desk, set_now, set_on, aged, older, is_empty, Run, begin, asks, types, acts, refuses, exits, not_built, shows, tells, begins, stops, round}
+use Rattle.heal.specs.House.{Proc, Nobody, Living, Dead, Empty, On, Now, Quiet, Under, Over, State, Gives, fresh, put, some', first, living, dead, nobody, parent_of, child_of, below, may_kill, clash, up_to1, dies, does, fits, ends, give_hand, set_proc, set_desk, set_on, older, is_empty, Run, begin, asks, types, acts, refuses, exits, not_built, shows, tells, begins, stops, round}
 use Rattle.heal.proofs.Lawful.{Lawful, Kin, Held, Desked, Idle, Same, quiet, first_at, not_below_itself, born_kin, born_held, born_desk, born_idle, gone_kin, gone_living, dies_lawful, busy_lives, at_now, same_lawful, close_held, open_held, did_spawn, did_wait, did_kill, did_open, did_close, did_take, did_leave, did_exit, did_die, did_read, did_write, did_remove, did_say, did_hear}
 
 -- what a call leaves, and that who asked for it lives on

@@ -1,11 +1,10 @@
 -- How asks compose. Kernels are explicit: they stand under projections.
 -- Assumes nothing.
-use Rattle.std.proofs.Common.{◌≡◌, ℕ, ◌+◌, ◌-◌, ◌<◌, ◌≤◌, Bool, true, false, cond, not, eqb, List, [], ◌∷◌, is_ok, is_err, Ok, Err, Result, sym, refl, ap, ◌∙◌, subst, subst₂, arith}
-use mathlib.Core.Bool.{false≢true}
+use Rattle.std.proofs.Common.{◌≡◌, ℕ, ◌+◌, ◌<◌, ◌≤◌, Bool, true, false, cond, not, eqb, List, is_ok, is_err, Ok, Err, Result, sym, refl, ap, ◌∙◌, subst, subst₂, arith}
 use Rattle.heal.specs.declared.Down.{Down}
 use Rattle.std.proofs.lemmas.Bool.Decides.{nat_tests as tests}
 use Rattle.heal.specs.Kernel.{Event, Kern, cells_of, kept}
-use Rattle.heal.specs.Journal.{viewed, own, Sound, Settled, with_left, Atomic, holds, lost_before, lost_after}
+use Rattle.heal.specs.Journal.{viewed, Sound, Settled, with_left, Atomic, holds, lost_before, lost_after}
 use Rattle.heal.specs.Invariant.{Inv, nothing}
 use Rattle.heal.specs.Turn.{Able, After, Did, Exact, Keeps, cells}
 use Rattle.heal.proofs.Atomics.{cells_many}

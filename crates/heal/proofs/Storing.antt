@@ -1,17 +1,17 @@
 -- The steps of accepting a call.
 -- Assumes nothing.
-use Rattle.std.proofs.Common.{◌≡◌, ℕ, ◌+◌, ◌-◌, ◌<◌, ◌≤◌, Bool, true, false, cond, not, ◌&&◌, ◌||◌, T, eqb, ◌⊎◌, List, [], ◌∷◌, length, sym, refl, ap, ◌∙◌, subst, inl, inr, arith}
+use Rattle.std.proofs.Common.{◌≡◌, ℕ, ◌+◌, ◌<◌, ◌≤◌, ◌||◌, T, eqb, ◌⊎◌, List, ◌∷◌, length, sym, ap, ◌∙◌, subst, arith}
 use Rattle.std.proofs.lemmas.Bool.Decides.{nat_tests as tests}
 use Rattle.heal.specs.declared.Call.{Call}
 use Rattle.heal.specs.declared.Msg.{Msg}
-use Rattle.heal.specs.declared.Msg.TheVariants.{Asks, Tells}
-use Rattle.heal.specs.Kernel.{Event, Kern, Some', server_of, kept, taken, tail, set}
-use Rattle.heal.specs.Journal.{viewed, with_left}
+use Rattle.heal.specs.declared.Msg.TheVariants.{Asks}
+use Rattle.heal.specs.Kernel.{Event, Kern, kept, taken, tail}
+use Rattle.heal.specs.Journal.{viewed}
 use Rattle.heal.specs.Codec.{call_of}
 use Rattle.heal.specs.Ready.{has}
-use Rattle.heal.specs.Invariant.{Inv, All, MsgOk, last, done, sweep, ready, nothing}
+use Rattle.heal.specs.Invariant.{Inv, All, MsgOk, last, sweep}
 use Rattle.heal.specs.Turn.{Exact, Keeps, cells, Storing, Stored, Fewer}
-use Rattle.heal.proofs.Kept.{words_kept, last_kept, take_kept, ready_kept}
+use Rattle.heal.proofs.Kept.{words_kept, last_kept, take_kept}
 use Rattle.heal.proofs.Steps.{put_cell, put_box}
 
 pub has_in : (p q bits m y : ℕ) → ((r : ℕ) → has r m ≡ has r bits || eqb p r) → bits ≡ y → T (has q y) → T (has q m)

@@ -1,23 +1,22 @@
 -- The steps of the sweep: finish, tell, clear.
 -- Assumes nothing.
-use Rattle.std.proofs.Common.{◌≡◌, ℕ, ◌+◌, ◌-◌, ◌<◌, ◌≤◌, Bool, true, false, cond, not, ◌&&◌, ◌||◌, T, eqb, ◌⊎◌, List, [], ◌∷◌, is_ok, Result, sym, refl, ap, ◌∙◌, subst, subst₂, inl, inr, arith}
+use Rattle.std.proofs.Common.{◌≡◌, ℕ, ◌+◌, ◌-◌, ◌<◌, ◌≤◌, Bool, true, false, cond, not, ◌&&◌, T, eqb, ◌⊎◌, List, [], is_ok, Result, sym, refl, ap, ◌∙◌, subst, subst₂, arith}
 use Rattle.std.proofs.lemmas.Bool.Decides.{nat_tests as tests}
 use Rattle.heal.specs.declared.Answer.{Answer}
 use Rattle.heal.specs.declared.Down.{Down}
-use Rattle.heal.specs.declared.Msg.{Msg}
 use Rattle.heal.specs.Kernel.{Event, Kern, Does, is_call, mine, kept, answered, answers}
 use Rattle.heal.specs.House.{Explained}
 use Rattle.heal.specs.Promise.{can}
-use Rattle.heal.specs.Journal.{viewed, own, with_left}
+use Rattle.heal.specs.Journal.{viewed, own}
 use Rattle.heal.specs.Codec.{answer_of}
 use Rattle.heal.specs.Ready.{has, FirstFrom}
 use Rattle.heal.specs.Invariant.{Inv, last, done, sweep, ready, owed, nothing, plus, credit}
-use Rattle.heal.specs.Turn.{Able, After, Did, Exact, Keeps, cells, Told, Finished, Stepped, Calm, Gives}
-use Rattle.heal.proofs.Kept.{owed_words_kept, ready_kept, told_kept, clear_kept, begin_kept, loose}
+use Rattle.heal.specs.Turn.{Able, After, Did, Exact, Keeps, cells, Told, Gives}
+use Rattle.heal.proofs.Kept.{owed_words_kept, told_kept, clear_kept, begin_kept, loose}
 use Rattle.heal.proofs.Told.{told_small, told_mine, answer_kept, answer_over}
 use Rattle.heal.proofs.Atomics.{stood, does_sound, does_viewed, does_atomic}
 use Rattle.heal.proofs.Meant.{cells_sound, answered_viewed, answered_cells}
-use Rattle.heal.proofs.Steps.{atomic_did, did_and, put_cell, put_box, inv_exact}
+use Rattle.heal.proofs.Steps.{atomic_did, did_and, put_cell}
 
 -- what the answer asks, and what it gives
 pub tell_needs : (k : Kern) (es : List Event) (p n : ℕ) (a : Answer) → sweep (cells k) ≡ 64 + p → n ≡ done (cells k) p - 1 → a ≡ owed (cells k) → Able 1 k es → (0 < k.left) × ((p < 64) × (T (mine p n k) × Explained can (answers p n a k es)))

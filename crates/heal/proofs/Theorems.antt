@@ -1,11 +1,11 @@
 -- What is promised of the machine that never falls: one writer, the dead hold nothing, the family stands.
 -- Assumes nothing.
-use Rattle.std.proofs.Common.{◌≡◌, ℕ, zero, suc, ◌+◌, ◌-◌, ◌<◌, ◌≤◌, Bool, true, false, cond, not, ◌&&◌, ◌||◌, T, eqb, ltb, leb, ◌⊎◌, sym, refl, ap, ◌∙◌, subst, inl, inr, ⊎_elim, arith}
+use Rattle.std.proofs.Common.{◌≡◌, ℕ, zero, suc, ◌+◌, ◌<◌, ◌≤◌, Bool, true, false, cond, not, ◌&&◌, ◌||◌, T, eqb, ltb, refl, ap, ◌∙◌, subst, ⊎_elim, arith}
 use Rattle.std.proofs.lemmas.Bool.Decides.{nat_tests as tests}
 use Rattle.std.proofs.lemmas.Bool.{cases_eq}
 use Rattle.heal.specs.House.{Proc, Living, Hand, Empty, State, living, nobody, parent_of, is_empty}
 use Rattle.heal.specs.Promise.{OneWriter, DeadHoldNothing, FamilyStands, up}
-use Rattle.heal.proofs.Lawful.{Lawful, Kin}
+use Rattle.heal.proofs.Lawful.{Kin}
 use Rattle.heal.proofs.Standing.{lawful}
 
 pub one_writer : OneWriter

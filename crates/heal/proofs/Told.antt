@@ -1,22 +1,18 @@
 -- An answer is told; programs ask, keys are struck; a round is over; how it starts.
 -- Assumes nothing.
-use Rattle.std.proofs.Common.{◌≡◌, ℕ, zero, suc, ◌+◌, ◌-◌, ◌*◌, ◌<◌, ◌≤◌, Bool, true, false, cond, not, ◌&&◌, ◌||◌, T, eqb, ltb, leb, ◌⊎◌, List, [], ◌∷◌, ◌++◌, length, sym, refl, ap, ◌∙◌, subst, subst₂, inl, inr, ⊎_elim, arith, length-append}
+use Rattle.std.proofs.Common.{◌≡◌, ℕ, ◌+◌, ◌-◌, ◌*◌, ◌<◌, ◌≤◌, Bool, true, false, cond, ◌&&◌, T, eqb, leb, ◌⊎◌, List, [], ◌∷◌, ◌++◌, length, sym, refl, ap, ◌∙◌, subst, subst₂, inl, inr, ⊎_elim, arith, length-append}
 use Rattle.std.proofs.lemmas.Bool.Decides.{nat_tests as tests}
 use Rattle.std.proofs.lemmas.Bool.{cases_eq}
 use Rattle.heal.specs.declared.Call.{Call}
 use Rattle.heal.specs.declared.Call.TheVariants.{Spawn, Exit, Wait, Kill, Open, Close, Read, Write, Remove, Take, Leave, Say, Hear}
 use Rattle.heal.specs.declared.Answer.{Answer}
 use Rattle.heal.specs.declared.Answer.TheVariants.{Done, No, Pid, Ended, Handle, Word}
-use Rattle.heal.specs.declared.Msg.{Msg}
-use Rattle.heal.specs.declared.Msg.TheVariants.{Asks, Tells}
-use Rattle.heal.specs.Kernel.{Event, Asked, Told, Typed, Round, Kern, Pending, None', Some', is_call, mine_of, mine, server_of, set, tail, kept, taken, with_runs, with_screen, answered, answers, asks, Between, rest, asking, typing, AtStart}
-use Rattle.heal.specs.House.{Proc, Nobody, Living, Now, Quiet, Under, Over, State, Run, every, living, begun_of, young, older, waits_in, aged, on_right, may_tell, set_now, set_desk, fresh, begin as run-begin, asks as run-asks, types as run-types, tells as run-tells, round as run-round}
-use Rattle.heal.specs.Promise.{can}
-use Rattle.heal.specs.Codec.{call_of, answer_of}
-use Rattle.heal.specs.Ready.{has}
-use Rattle.heal.specs.Invariant.{Has, All, MsgOk, Fresh, Mail, Waiting, Who, Numbers, Sweeps, Early, DeskIs, Rel, Inv, last, done, call_at, owed, ready, sweep, shown_in, heard_in, owner_in, ahead, far, hops, occ, nothing}
+use Rattle.heal.specs.declared.Msg.TheVariants.{Asks}
+use Rattle.heal.specs.Kernel.{Event, Asked, Told, Typed, Round, Kern, Pending, None', Some', is_call, mine_of, mine, server_of, set, tail, with_runs, with_screen, answered, answers, asks, Between, rest, asking, typing, AtStart}
+use Rattle.heal.specs.House.{Nobody, Living, Now, Quiet, Under, Over, State, living, begun_of, young, older, waits_in, aged, on_right, may_tell, set_now, set_desk, fresh, begin as run-begin, asks as run-asks, types as run-types, tells as run-tells, round as run-round}
+use Rattle.heal.specs.Invariant.{Has, Mail, Waiting, Who, Early, DeskIs, Inv, last, done, owed, sweep, shown_in, ahead, hops, occ, nothing}
 use Rattle.heal.proofs.FileCells.{files_fresh}
-use Rattle.heal.proofs.Mail.{set_same, every_all, is_call_lem, has_old, has_new, mail_same, mail_empty, mail_told, mail_asks, far_top}
+use Rattle.heal.proofs.Mail.{set_same, every_all, is_call_lem, has_new, mail_empty, mail_told, mail_asks, far_top}
 
 -- small facts
 same_call : (x : Pending) (m n : ℕ) (c d : Call) → x ≡ Some' m d → x ≡ Some' n c → (m ≡ n) × (d ≡ c)

@@ -1,6 +1,6 @@
 -- What a call at the sweep comes to: what is written at its moment and answered, or that it waits.
 -- Assumes nothing.
-use Rattle.std.specs.Prelude.{◌≡◌, ℕ, ◌+◌, ◌<◌, ◌≤◌, Bool, true, false, ◌⊎◌, List, [], ◌∷◌, length, Some, None, Option, ◌≢◌}
+use Rattle.std.specs.Prelude.{◌≡◌, ℕ, ◌+◌, ◌<◌, ◌≤◌, true, ◌⊎◌, List, [], ◌∷◌, length, Some, None, Option, ◌≢◌}
 use Rattle.heal.specs.declared.Call.{Call}
 use Rattle.heal.specs.declared.Call.TheVariants.{Say}
 use Rattle.heal.specs.declared.Answer.{Answer}

@@ -1,20 +1,18 @@
 -- What holds after each thing that is asked of the kernel, whoever falls over it. All of it is about logical cells.
 -- Assumes nothing.
-use Rattle.std.specs.Prelude.{◌≡◌, ℕ, zero, suc, ◌+◌, ◌-◌, ◌*◌, ◌/◌, ◌%◌, ◌^◌, ◌<◌, ◌≤◌, Bool, true, false, cond, not, ◌&&◌, ◌||◌, T, ◌⊎◌, List, [], ◌∷◌, ◌++◌, length, is_ok, Ok, Err, Result, ◌==◌, ◌≢◌, nat_eq, nat_le, nat_lt}
+use Rattle.std.specs.Prelude.{◌≡◌, ℕ, ◌+◌, ◌-◌, ◌*◌, ◌<◌, ◌≤◌, Bool, true, false, cond, not, ◌&&◌, T, ◌⊎◌, List, [], ◌∷◌, length, ◌==◌, ◌≢◌, nat_eq, nat_le, nat_lt}
 use Rattle.heal.specs.declared.Call.{Call}
 use Rattle.heal.specs.declared.Call.TheVariants.{Say}
 use Rattle.heal.specs.declared.Answer.{Answer}
 use Rattle.heal.specs.declared.Answer.TheVariants.{Done}
-use Rattle.heal.specs.declared.Down.{Down}
 use Rattle.heal.specs.declared.Msg.{Msg}
 use Rattle.heal.specs.declared.Msg.TheVariants.{Asks, Tells}
-use Rattle.heal.specs.Kernel.{Event, Kern, Pending, None', Some', is_call, server_of, set, tail}
-use Rattle.heal.specs.House.{Proc, Nobody, Living, Now, Quiet, Under, Over, State, Run, put, waits_in}
+use Rattle.heal.specs.Kernel.{Event, Kern, Pending, None', Some', server_of, tail}
+use Rattle.heal.specs.House.{Nobody, Living, Now, Quiet, Under, Over, State, Run, put, waits_in}
 use Rattle.heal.specs.Promise.{can}
 use Rattle.heal.specs.Codec.{call_of, answer_of}
 use Rattle.heal.specs.Ready.{has}
 use Rattle.heal.specs.Files.{FilesAre}
-use Rattle.heal.specs.Journal.{viewed, own, Sound, Settled}
 
 -- a server's cells
 abbrev pub last : (ℕ → ℕ) → ℕ → ℕ

@@ -1,9 +1,9 @@
 -- What the traits cite, and what is promised beside the main promise.
 -- Assumes nothing.
-use Rattle.std.specs.Prelude.{◌≡◌, ℕ, zero, suc, ◌+◌, ◌<◌, ◌≤◌, Bool, true, false, cond, not, ◌&&◌, ◌||◌, T, eqb, ltb, leb, ◌⊎◌, List, [], ◌∷◌, ◌++◌, length, get_or}
+use Rattle.std.specs.Prelude.{◌≡◌, ℕ, zero, suc, ◌<◌, Bool, true, not, T, List, [], ◌∷◌, length}
 use Rattle.heal.specs.declared.Call.{Call}
 use Rattle.heal.specs.Kernel.{Event, Asked, Told, Began, Stopped, Shown, Typed, Round}
-use Rattle.heal.specs.House.{Proc, Nobody, Living, Dead, Hand, Empty, On, State, Run, core, parent_of, nobody, living, dead}
+use Rattle.heal.specs.House.{Empty, On, State, Run, core, parent_of, nobody, living}
 
 -- the calls that are built: it grows with the landings to `all`, and never loses a call
 abbrev pub can : Call → Bool

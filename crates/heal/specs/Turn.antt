@@ -1,12 +1,12 @@
 -- What the functions of a server say.
 -- Assumes nothing.
-use Rattle.std.specs.Prelude.{◌≡◌, ℕ, ◌+◌, ◌<◌, ◌≤◌, Bool, true, false, cond, not, T, eqb, ◌⊎◌, List, [], ◌∷◌, length, is_ok, Some, None, Ok, Err, Option, Result}
+use Rattle.std.specs.Prelude.{◌≡◌, ℕ, ◌+◌, ◌<◌, ◌≤◌, Bool, true, false, not, T, ◌⊎◌, List, [], ◌∷◌, length, is_ok, Some, None, Ok, Option, Result}
 use Rattle.heal.specs.Ready.{has}
 use Rattle.heal.specs.declared.Call.{Call}
 use Rattle.heal.specs.declared.Down.{Down}
 use Rattle.heal.specs.declared.Msg.{Msg}
 use Rattle.heal.specs.declared.Msg.TheVariants.{Asks}
-use Rattle.heal.specs.Kernel.{Event, Kern, tail, is_call, Some', server_of}
+use Rattle.heal.specs.Kernel.{Event, Kern, is_call, Some', server_of}
 use Rattle.heal.specs.Journal.{viewed, own, Sound, Settled, with_left}
 use Rattle.heal.specs.Invariant.{Inv, nothing, last, done, sweep, ready, credit, plus}
 

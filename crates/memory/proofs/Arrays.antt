@@ -1,5 +1,5 @@
 -- What a write to an array of the machine does to what the array means.
-use Rattle.std.proofs.Common.{◌≡◌, ℕ, zero, suc, ◌+◌, ◌-◌, ◌*◌, ◌%◌, ◌<◌, ◌≤◌, Bool, true, false, cond, ◌&&◌, eqb, ltb, ◌⊎◌, List, [], ◌∷◌, ◌++◌, map, length, get_or, take, set, Some, None, sym, refl, ap, ◌∙◌, subst, inl, inr, ⊎_elim, add-zero, add-one, arith, get_or-set_other, get_or-set_same}
+use Rattle.std.proofs.Common.{◌≡◌, ℕ, zero, suc, ◌+◌, ◌-◌, ◌*◌, ◌%◌, ◌<◌, ◌≤◌, Bool, true, false, cond, ◌&&◌, eqb, ltb, List, [], ◌∷◌, ◌++◌, map, length, get_or, take, set, Some, None, sym, refl, ap, ◌∙◌, subst, ⊎_elim, add-zero, arith, get_or-set_other, get_or-set_same}
 use mathlib.Core.Path.{fun_ext}
 use Rattle.std.specs.List.{range_with_len}
 use Rattle.std.proofs.lemmas.List.{length-take-le, get_or-take}
@@ -7,9 +7,9 @@ use Rattle.std.proofs.lemmas.List.FromFn.{length-map-range_with_len, map-range_w
 use Rattle.heal.specs.declared.Msg.{Msg}
 use Rattle.heal.specs.declared.Msg.TheVariants.{Asks}
 use Rattle.heal.specs.declared.Call.TheVariants.{Spawn}
-use Rattle.std.proofs.lemmas.Bool.{cond-true, cond-false, eq-eqb, ne_eqb, lt-ltb, le-ltb, cases_eq, cases_lt, and_left, and_right, and_from, and_parts, cases_Bool, ltb-true, false≢true}
+use Rattle.std.proofs.lemmas.Bool.{cond-true, cond-false, eq-eqb, ne_eqb, lt-ltb, cases_eq, and_left, and_right, and_from, and_parts, cases_Bool, ltb-true, false≢true}
 use Rattle.std.proofs.lemmas.Bool.Decides.{nat_tests}
-use Rattle.heal.specs.Kernel.{cells_of, Pending, None', key_at, first_of, tail}
+use Rattle.heal.specs.Kernel.{cells_of, key_at, first_of, tail}
 use Rattle.memory.specs.declared.Waiting.{Waiting}
 use Rattle.memory.specs.declared.Waiting.TheVariants.{Nothing, For}
 use Rattle.memory.specs.Lines.{idle}

@@ -1,9 +1,8 @@
 -- A machine as it starts.
-use Rattle.std.proofs.Common.{◌≡◌, ℕ, zero, suc, ◌+◌, ◌*◌, ◌<◌, ◌≤◌, Bool, true, false, cond, T, ltb, List, [], ◌∷◌, map, length, get_or, set, replicate, sym, refl, ap, ◌∙◌, arith, get_or-set_other}
+use Rattle.std.proofs.Common.{◌≡◌, ℕ, zero, suc, ◌+◌, ◌≤◌, Bool, true, false, cond, T, List, [], ◌∷◌, map, length, get_or, set, replicate, refl, ap, ◌∙◌, arith, get_or-set_other}
 use Rattle.std.specs.List.{range_with_len}
 use Rattle.heal.specs.declared.Msg.{Msg}
-use Rattle.heal.specs.Kernel.{Pending, None'}
-use Rattle.memory.specs.declared.Waiting.{Waiting}
+use Rattle.heal.specs.Kernel.{None'}
 use Rattle.memory.specs.declared.Waiting.TheVariants.{Nothing}
 use Rattle.memory.specs.Memory.{base_of, inside, box_of, mail_at, cell_of, runs_of, waits_of, wait_of, number_of}
 

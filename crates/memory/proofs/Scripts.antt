@@ -1,5 +1,5 @@
 -- What happens between turns.
-use Rattle.std.proofs.Common.{◌≡◌, ℕ, zero, suc, ◌+◌, ◌<◌, ◌≤◌, Bool, true, false, cond, not, ◌&&◌, T, eqb, ltb, ◌⊎◌, List, [], ◌∷◌, ◌++◌, length, get_or, take, set, sym, refl, ap, ◌∙◌, subst, subst₂, inl, inr, ⊎_elim, arith}
+use Rattle.std.proofs.Common.{◌≡◌, ℕ, zero, suc, ◌+◌, ◌<◌, ◌≤◌, Bool, true, false, cond, not, ◌&&◌, T, eqb, ltb, List, [], ◌∷◌, ◌++◌, length, get_or, take, set, sym, refl, ap, ◌∙◌, subst, subst₂, inl, inr, ⊎_elim, arith}
 use Rattle.std.proofs.lemmas.List.{take_more_set}
 use Rattle.std.proofs.lemmas.Bool.{and_left, and_right, and_from, cond-true, cond-false, ltb-false, cases_Bool, false≢true}
 use Rattle.heal.specs.declared.Call.{Call}
@@ -19,7 +19,7 @@ use Rattle.memory.specs.declared.Note.{Note}
 use Rattle.memory.specs.declared.Note.TheVariants as note
 use Rattle.memory.specs.Notes.{logged, added}
 use Rattle.memory.specs.Beside.{Aside, Noted, Unnoted}
-use Rattle.memory.specs.Lines.{idle, ask_kern, ask_note, calm_of, all_calm, Lacks, Refused, Followed, Heeded, Kept, Begun, runs, reads, over}
+use Rattle.memory.specs.Lines.{idle, ask_kern, ask_note, calm_of, all_calm, Lacks, Refused, Followed, Heeded}
 use Rattle.script.specs.Scripts.{Reads}
 use Rattle.memory.proofs.Words.{logged_new}
 use Rattle.memory.proofs.Fates.{plan_same}

@@ -1,6 +1,6 @@
 -- Six words that are written, and what is read then.
-use Rattle.std.proofs.Common.{◌≡◌, ℕ, zero, suc, ◌+◌, ◌-◌, ◌*◌, ◌<◌, ◌≤◌, List, [], ◌∷◌, length, get_or, set, sym, refl, ap, ◌∙◌, add-one, arith, length-set, get_or-set_other, get_or-set_same}
-use Rattle.heal.specs.Kernel.{Event, Round}
+use Rattle.std.proofs.Common.{◌≡◌, ℕ, zero, suc, ◌+◌, ◌-◌, ◌*◌, ◌<◌, ◌≤◌, List, ◌∷◌, length, get_or, set, sym, refl, ap, ◌∙◌, add-one, arith, length-set, get_or-set_other, get_or-set_same}
+use Rattle.heal.specs.Kernel.{Round}
 use Rattle.memory.specs.declared.Note.{Note}
 use Rattle.memory.specs.declared.Note.TheVariants.{Rounds}
 use Rattle.memory.specs.Notes.{note_of, note_at, logged, added, rounds}

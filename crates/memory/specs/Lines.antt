@@ -15,7 +15,6 @@ use Rattle.memory.specs.declared.State.{State}
 use Rattle.memory.specs.declared.State.TheVariants.{Going, Ended, Anew, Full}
 use Rattle.memory.specs.declared.Waiting.{Waiting}
 use Rattle.memory.specs.declared.machine.Machine.{Machine}
-use Rattle.memory.specs.declared.machine.Plan.{Plan}
 use Rattle.memory.specs.Memory.{kern_of, wait_of}
 use Rattle.memory.specs.Plan.{PlanAdded, PlanChance, PlanSame}
 use Rattle.memory.specs.Beside.{Aside, Noted, SamePace, Unnoted}

@@ -1,6 +1,6 @@
 -- What a machine means: the kernel that its arrays hold, and the events that its notes tell.
 -- Assumes nothing.
-use Rattle.std.specs.Prelude.{ℕ, ◌+◌, ◌*◌, ◌%◌, Bool, true, false, cond, ◌&&◌, List, map, take, ◌==◌, nat_lt, slice_index, slice_index_or}
+use Rattle.std.specs.Prelude.{ℕ, ◌+◌, ◌*◌, ◌%◌, Bool, false, cond, ◌&&◌, List, map, take, ◌==◌, nat_lt, slice_index, slice_index_or}
 use Rattle.std.specs.List.{range_with_len}
 use Rattle.heal.specs.declared.Msg.{Msg}
 use Rattle.heal.specs.declared.Msg.TheVariants.{Asks}

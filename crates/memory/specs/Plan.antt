@@ -1,6 +1,6 @@
 -- Where a server falls: over what is in the plan's list, and by chance.
 -- Assumes nothing.
-use Rattle.std.specs.Prelude.{◌≡◌, ℕ, ◌+◌, ◌-◌, ◌*◌, ◌/◌, ◌%◌, ◌^◌, Bool, true, false, cond, ◌&&◌, List, [], ◌∷◌, take, set, ◌==◌, nat_lt, slice_index, slice_index_or, slice_set}
+use Rattle.std.specs.Prelude.{◌≡◌, ℕ, ◌+◌, ◌-◌, ◌*◌, ◌/◌, ◌%◌, ◌^◌, Bool, false, cond, ◌&&◌, List, [], ◌∷◌, take, set, ◌==◌, nat_lt, slice_index, slice_index_or, slice_set}
 use Rattle.memory.specs.declared.Fate.{Fate}
 use Rattle.memory.specs.declared.Fate.TheVariants.{Stands, FallsBefore, FallsAfter}
 use Rattle.memory.specs.declared.Fall.{Fall}

@@ -1,4 +1,4 @@
-use Rattle.std.proofs.Common.{◌≡◌, ◌-◌, false}
+use Rattle.std.proofs.Common.{◌-◌}
 use Rattle.heal.proofs.Rounds.{Stands}
 use Rattle.heal.proofs.days.Given as goal
 

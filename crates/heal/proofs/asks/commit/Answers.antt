@@ -1,4 +1,3 @@
-use Rattle.std.proofs.Common.{◌≡◌, refl}
 use Rattle.heal.specs.Journal.{viewed, kept_all}
 use Rattle.heal.specs.Transaction.{pairs_of}
 use Rattle.heal.proofs.Atomics.{kept_all_at, kept_all_fell}

@@ -1,6 +1,6 @@
-use Rattle.std.proofs.Common.{◌≡◌, ℕ, is_ok, sym, refl, ap, ◌∙◌, arith}
-use Rattle.heal.specs.Journal.{viewed, own}
-use Rattle.heal.specs.Turn.{Exact, cells}
+use Rattle.std.proofs.Common.{is_ok, sym, refl, ap, ◌∙◌}
+use Rattle.heal.specs.Journal.{viewed}
+use Rattle.heal.specs.Turn.{cells}
 use Rattle.heal.proofs.Atomics.{does_atomic, ok_is}
 use Rattle.heal.proofs.Steps.{atomic_did, did_and, in_cells}
 use Rattle.heal.proofs.asks.read.Goals as goal

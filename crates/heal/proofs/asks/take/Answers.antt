@@ -1,4 +1,4 @@
-use Rattle.std.proofs.Common.{◌≡◌, refl, ap, ◌∙◌}
+use Rattle.std.proofs.Common.{refl, ap, ◌∙◌}
 use Rattle.heal.specs.Kernel.{taken}
 use Rattle.heal.specs.Journal.{viewed, own}
 use Rattle.heal.proofs.Atomics.{stood, does_sound, does_viewed, does_atomic}

@@ -1,6 +1,6 @@
-use Rattle.std.proofs.Common.{◌≡◌, sym, refl, ap, ◌∙◌}
+use Rattle.std.proofs.Common.{refl}
 use Rattle.heal.specs.Kernel.{kept}
-use Rattle.heal.specs.Journal.{viewed, own}
+use Rattle.heal.specs.Journal.{viewed}
 use Rattle.heal.proofs.Atomics.{does_atomic}
 use Rattle.heal.proofs.Steps.{atomic_did, in_cells}
 use Rattle.heal.proofs.asks.write.Goals as goal

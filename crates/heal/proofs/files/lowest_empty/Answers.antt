@@ -1,19 +1,8 @@
-use Rattle.std.proofs.Common.{◌≡◌, ℕ, ◌+◌, ◌-◌, ◌*◌, ◌/◌, ◌%◌, ◌<◌, ◌≤◌, true, false, cond, not, eqb, ◌⊎◌, [], ◌∷◌, ◌++◌, Some, None, sym, refl, ap, ◌∙◌, subst, inl, inr, ⊎_elim, arith, below_more}
-use Rattle.std.proofs.lemmas.Bool.Decides.{nat_tests as tests}
-use Rattle.heal.specs.declared.Call.TheVariants.{Spawn, Exit, Wait, Kill, Open, Close, Read, Write, Remove, Take, Leave, Say, Hear}
-use Rattle.heal.specs.declared.Answer.TheVariants.{Done, No, Word, Handle}
-use Rattle.heal.specs.Kernel.{server_of, key_at}
-use Rattle.heal.specs.House.{core}
-use Rattle.heal.specs.Journal.{viewed, Within}
-use Rattle.heal.specs.Transaction.{pairs_of}
-use Rattle.heal.specs.Files.{hand_at, size_at, users_at, word_at, name_in, writes_in}
-use Rattle.heal.specs.Invariant.{last, done, sweep, owed, ready, nothing, owner_in, shown_in, heard_in}
-use Rattle.heal.specs.Deciding.{Standing, Decided, Chosen, Holds, Lowest}
-use Rattle.heal.specs.Turn.{cells, Calm}
-use Rattle.heal.proofs.Steps.{able, able_less, after_then, after_none, did_then, did_ok, did_lost, same_cell, same_cells, same_box, put_cell, put_box, read_read, inv_exact}
-use Rattle.heal.proofs.Finishing.{pairs_two, within_two, pairs_few, standing_word, decided_word, standing_exact, decided_exact, chosen_exact, chosen_from, finish_keeps, finished, pass_gives}
-use Rattle.heal.proofs.Serving.{not_core, counts_fit, pass_keeps, refused_14, at_one, at_two, in_files, handle_name, users_few, standing_slot}
-use Rattle.heal.proofs.Deciders.{take_no9, take_done, leave_no9, leave_done, hear_no9, hear_waits, hear_done, say_no9, say_done, open_1, open_2, open_8, open_13, open_yes, open_have, close_4, close_yes, read_4, read_5, read_yes, write_4, write_6, write_5, write_yes, remove_1, remove_2, remove_8, remove_yes}
+use Rattle.std.proofs.Common.{◌≡◌, ◌+◌, true, false, Some, None, sym, refl, ap, ◌∙◌, arith, below_more}
+use Rattle.heal.specs.Files.{hand_at}
+use Rattle.heal.specs.Turn.{cells}
+use Rattle.heal.proofs.Steps.{able, after_then, after_none, did_ok, did_lost, same_cells, read_read}
+use Rattle.heal.proofs.Serving.{in_files}
 use Rattle.heal.proofs.files.lowest_empty.Goals as goal
 
 pub loop-e-init : goal.loop-e-init

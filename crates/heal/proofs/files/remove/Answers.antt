@@ -1,19 +1,13 @@
-use Rattle.std.proofs.Common.{◌≡◌, ℕ, ◌+◌, ◌-◌, ◌*◌, ◌/◌, ◌%◌, ◌<◌, ◌≤◌, true, false, cond, not, eqb, ◌⊎◌, [], ◌∷◌, ◌++◌, Some, None, sym, refl, ap, ◌∙◌, subst, inl, inr, ⊎_elim, arith}
-use Rattle.std.proofs.lemmas.Bool.Decides.{nat_tests as tests}
-use Rattle.heal.specs.declared.Call.TheVariants.{Spawn, Exit, Wait, Kill, Open, Close, Read, Write, Remove, Take, Leave, Say, Hear}
-use Rattle.heal.specs.declared.Answer.TheVariants.{Done, No, Word, Handle}
-use Rattle.heal.specs.Kernel.{server_of, key_at}
-use Rattle.heal.specs.House.{core}
-use Rattle.heal.specs.Journal.{viewed, Within}
-use Rattle.heal.specs.Transaction.{pairs_of}
-use Rattle.heal.specs.Files.{hand_at, size_at, users_at, word_at, name_in, writes_in}
-use Rattle.heal.specs.Invariant.{last, done, sweep, owed, ready, nothing, owner_in, shown_in, heard_in}
-use Rattle.heal.specs.Deciding.{Standing, Decided, Chosen, Holds, Lowest}
-use Rattle.heal.specs.Turn.{cells, Calm}
-use Rattle.heal.proofs.Steps.{able, able_less, after_then, after_none, did_then, did_ok, did_lost, same_cell, same_cells, same_box, put_cell, put_box, read_read, inv_exact}
-use Rattle.heal.proofs.Finishing.{pairs_two, within_two, pairs_few, standing_word, decided_word, standing_exact, decided_exact, chosen_exact, chosen_from, finish_keeps, finished, pass_gives}
-use Rattle.heal.proofs.Serving.{not_core, counts_fit, pass_keeps, refused_14, at_one, at_two, in_files, handle_name, users_few, standing_slot}
-use Rattle.heal.proofs.Deciders.{take_no9, take_done, leave_no9, leave_done, hear_no9, hear_waits, hear_done, say_no9, say_done, open_1, open_2, open_8, open_13, open_yes, open_have, close_4, close_yes, read_4, read_5, read_yes, write_4, write_6, write_5, write_yes, remove_1, remove_2, remove_8, remove_yes}
+use Rattle.std.proofs.Common.{◌≡◌, ℕ, true, [], ◌∷◌, sym, refl, ap, ◌∙◌, subst, arith}
+use Rattle.heal.specs.declared.Call.TheVariants.{Remove}
+use Rattle.heal.specs.declared.Answer.TheVariants.{Done, No}
+use Rattle.heal.specs.Kernel.{server_of}
+use Rattle.heal.specs.Journal.{viewed}
+use Rattle.heal.specs.Files.{size_at, users_at}
+use Rattle.heal.proofs.Steps.{after_then, after_none, did_ok, same_cells, same_box, read_read}
+use Rattle.heal.proofs.Finishing.{chosen_exact, chosen_from}
+use Rattle.heal.proofs.Serving.{at_one}
+use Rattle.heal.proofs.Deciders.{remove_1, remove_2, remove_8, remove_yes}
 use Rattle.heal.proofs.files.remove.Goals as goal
 
 there : (x : ℕ) → server_of (Remove x) ≡ 1

@@ -1,10 +1,10 @@
-use Rattle.std.proofs.Common.{◌≡◌, ℕ, ◌+◌, ◌*◌, ◌<◌, ◌≤◌, Bool, true, false, List, Ok, Result, sym, refl, ap, ◌∙◌, arith, rules}
+use Rattle.std.proofs.Common.{◌≡◌, ℕ, ◌+◌, ◌*◌, ◌<◌, true, List, Ok, Result, sym, refl, ap, ◌∙◌, arith, rules}
 use mathlib.Core.Bool.{false≢true}
 use Rattle.heal.specs.Kernel.{Kern, Event, Does, cells_of, set}
-use Rattle.heal.specs.Journal.{Sound, own, viewed, Fine}
+use Rattle.heal.specs.Journal.{Sound, own}
 use Rattle.heal.specs.declared.Down.{Down}
 use Rattle.heal.proofs.Cells.{Applies, applies, fine_few, set_here}
-use Rattle.heal.proofs.Atomics.{At, at_start, at_get, at_put, at_fine, at_left, at_there, lost_get, lost_put, end_same, more, not_ok, ok_is, sound_own, cells_many, cells_few}
+use Rattle.heal.proofs.Atomics.{At, at_start, at_get, at_put, at_left, at_there, lost_get, lost_put, end_same, more, not_ok, ok_is, sound_own, cells_many, cells_few}
 use Rattle.heal.proofs.journal.apply.Goals as goal
 
 -- how many entries there are

@@ -1,4 +1,4 @@
-use Rattle.std.proofs.Common.{◌≡◌, ℕ, Ok, Result, sym, refl, ap, ◌∙◌}
+use Rattle.std.proofs.Common.{ℕ, Ok, Result, sym, refl, ap, ◌∙◌}
 use Rattle.heal.specs.declared.Down.{Down}
 use Rattle.heal.specs.Journal.{own, viewed}
 use Rattle.heal.proofs.Cells.{view_settled}

@@ -1,7 +1,7 @@
-use Rattle.std.proofs.Common.{◌≡◌, ℕ, suc, ◌+◌, ◌-◌, ◌*◌, ◌<◌, ◌≤◌, Bool, true, false, List, sym, refl, ap, ◌∙◌, add-one, arith}
+use Rattle.std.proofs.Common.{◌≡◌, ℕ, ◌+◌, ◌*◌, ◌<◌, true, List, sym, refl, ap, ◌∙◌, add-one, arith}
 use mathlib.Core.Bool.{false≢true}
 use Rattle.heal.specs.Kernel.{Kern, Event, Does, kept, set}
-use Rattle.heal.specs.Journal.{Sound, own, entries, viewed, Fine}
+use Rattle.heal.specs.Journal.{Sound, own, entries}
 use Rattle.heal.proofs.Cells.{front_settled, front_fine, entry_put}
 use Rattle.heal.proofs.Atomics.{At, at_start, at_put, at_left, lost_put, end_same, more, not_ok, cells_many}
 use Rattle.heal.proofs.journal.note.Goals as goal

@@ -1,4 +1,4 @@
-use Rattle.std.proofs.Common.{◌≡◌, ℕ, ◌+◌, sym, refl, ap, ◌∙◌}
+use Rattle.std.proofs.Common.{◌+◌, ap, ◌∙◌}
 use Rattle.heal.specs.Kernel.{kept}
 use Rattle.heal.specs.Journal.{own, viewed}
 use Rattle.heal.proofs.Cells.{behind_settled, fine_settled}

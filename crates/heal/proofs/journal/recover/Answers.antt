@@ -1,10 +1,10 @@
-use Rattle.std.proofs.Common.{◌≡◌, ℕ, ◌+◌, ◌-◌, ◌*◌, ◌<◌, ◌≤◌, Bool, true, false, List, Ok, Result, sym, refl, ap, ◌∙◌, arith, rules}
+use Rattle.std.proofs.Common.{◌≡◌, ℕ, ◌≤◌, true, List, Ok, Result, sym, refl, ap, ◌∙◌, arith, rules}
 use mathlib.Core.Bool.{false≢true}
 use Rattle.heal.specs.Kernel.{Kern, Event, Does}
-use Rattle.heal.specs.Journal.{Sound, own, viewed, Fine}
+use Rattle.heal.specs.Journal.{Sound, own}
 use Rattle.heal.specs.declared.Down.{Down}
 use Rattle.heal.proofs.Cells.{fine_count}
-use Rattle.heal.proofs.Atomics.{At, at_start, at_own, at_get, at_call, at_left, at_join, at_more, at_end, lost_get, lost_call, more, not_ok, ok_is, sound_own, stood, cells_many}
+use Rattle.heal.proofs.Atomics.{At, at_start, at_own, at_get, at_call, at_left, at_join, at_more, at_end, lost_get, lost_call, more, not_ok, ok_is, sound_own, stood}
 use Rattle.heal.proofs.journal.recover.Goals as goal
 
 -- the first read

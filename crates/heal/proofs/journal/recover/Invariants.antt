@@ -1,4 +1,4 @@
-use Rattle.std.proofs.Common.{◌≡◌, ◌+◌, ◌-◌, ◌*◌, ◌≤◌}
+use Rattle.std.proofs.Common.{◌≡◌, ◌-◌, ◌*◌, ◌≤◌}
 use Rattle.heal.specs.Journal.{own}
 use Rattle.heal.proofs.Atomics.{At}
 use Rattle.heal.proofs.journal.recover.Given as goal

@@ -1,7 +1,7 @@
-use Rattle.std.proofs.Common.{◌≡◌, ℕ, suc, ◌+◌, ◌-◌, ◌*◌, ◌<◌, ◌≤◌, Bool, true, false, List, [], ◌∷◌, length, get_or, drop, sym, refl, ap, ◌∙◌, arith}
+use Rattle.std.proofs.Common.{◌≡◌, ℕ, ◌+◌, ◌-◌, ◌*◌, ◌<◌, ◌≤◌, Bool, true, List, ◌∷◌, length, get_or, drop, sym, refl, ap, ◌∙◌, arith}
 use mathlib.Core.Bool.{false≢true}
 use Rattle.heal.specs.Kernel.{Kern, Event, Does, kept, set, cells_of}
-use Rattle.heal.specs.Journal.{Sound, own, entries, written, kept_all, viewed, view, Fine, Within, Atomic}
+use Rattle.heal.specs.Journal.{Sound, own, entries, kept_all, viewed, Within, Atomic}
 use Rattle.heal.proofs.Cells.{committed, committed_fine, drop_back, drop_whole, drop_none}
 use Rattle.heal.proofs.Atomics.{At, at_start, at_call, at_more, at_left, lost_call, end_put, more, not_ok, cells_many, atomic_left, as_lost, then_stays}
 use Rattle.heal.proofs.journal.write_all.Goals as goal

@@ -1,4 +1,4 @@
-use Rattle.std.proofs.Common.{◌≡◌, ◌+◌, ◌-◌, ◌*◌, ◌≤◌, length, drop}
+use Rattle.std.proofs.Common.{◌≡◌, ◌-◌, ◌*◌, length, drop}
 use Rattle.heal.specs.Journal.{own, entries}
 use Rattle.heal.proofs.Atomics.{At}
 use Rattle.heal.proofs.journal.write_all.Given as goal

@@ -1,8 +1,8 @@
-use Rattle.std.proofs.Common.{◌≡◌, ◌+◌, ◌<◌, ◌≤◌, true, false, sym, refl, ap, ◌∙◌, arith}
+use Rattle.std.proofs.Common.{◌≡◌, ◌+◌, ◌<◌, ◌≤◌, true, false, refl, ap, ◌∙◌, arith}
 use Rattle.heal.specs.Journal.{viewed}
 use Rattle.heal.specs.Invariant.{last, sweep}
 use Rattle.heal.specs.Turn.{cells}
-use Rattle.heal.proofs.Steps.{able, able_less, after_then, did_then, did_lost, same_cell, same_box, put_cell, put_box}
+use Rattle.heal.proofs.Steps.{able, after_then, did_then, did_lost, same_cell, same_box, put_cell, put_box}
 use Rattle.heal.proofs.Storing.{storing, take_keeps, fewer}
 use Rattle.heal.proofs.slots.accept.Goals as goal
 

@@ -1,4 +1,4 @@
-use Rattle.std.proofs.Common.{◌≡◌, sym, refl, ap, ◌∙◌, arith}
+use Rattle.std.proofs.Common.{sym, refl, ◌∙◌, arith}
 use Rattle.heal.specs.Journal.{viewed}
 use Rattle.heal.proofs.Kept.{ready_kept}
 use Rattle.heal.proofs.Steps.{able, did_then, same_cell, read_put}

@@ -1,4 +1,4 @@
-use Rattle.std.proofs.Common.{◌≡◌, refl, arith}
+use Rattle.std.proofs.Common.{refl, arith}
 use Rattle.heal.proofs.Mail.{box_few}
 use Rattle.heal.proofs.Steps.{after_none}
 use Rattle.heal.proofs.slots.drain.Goals as goal

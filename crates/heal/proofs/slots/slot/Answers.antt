@@ -1,14 +1,9 @@
-use Rattle.std.proofs.Common.{◌≡◌, ℕ, ◌+◌, ◌-◌, ◌<◌, ◌≤◌, true, false, cond, not, eqb, sym, refl, ap, ◌∙◌, inl, inr, arith}
+use Rattle.std.proofs.Common.{◌+◌, true, false, cond, refl, ap, ◌∙◌, arith}
 use Rattle.heal.specs.Codec.{has_b, has_x}
-use Rattle.std.proofs.lemmas.Bool.Decides.{nat_tests as tests}
-use Rattle.heal.specs.Journal.{viewed}
 use Rattle.heal.proofs.Holding.{slot_none, slot_some, same_words}
 use Rattle.heal.proofs.Steps.{same_cells}
-use Rattle.heal.specs.Invariant.{last, done, sweep, owed, ready}
 use Rattle.heal.specs.Turn.{cells}
-use Rattle.heal.proofs.Kept.{ready_kept}
-use Rattle.heal.proofs.Steps.{able, able_less, after_then, did_then, did_ok, did_lost, same_cell, same_box, put_cell, put_box, read_read, inv_exact}
-use Rattle.heal.proofs.Sweeping.{answer_keeps, answer_there, told_keeps, put_other, put_here, clear_gives, less, has_out}
+use Rattle.heal.proofs.Steps.{after_then, did_ok, did_lost, read_read}
 use Rattle.heal.proofs.slots.slot.Goals as goal
 
 pub returns-then-not-branch : goal.returns-then-not-branch

@@ -1,4 +1,4 @@
-use Rattle.std.proofs.Common.{◌≡◌, ◌+◌, true, false, sym, refl, ap, ◌∙◌, inl, inr, arith}
+use Rattle.std.proofs.Common.{◌+◌, true, false, refl, ◌∙◌, inl, inr, arith}
 use Rattle.heal.specs.Journal.{viewed}
 use Rattle.heal.proofs.Steps.{able, able_less, after_then, did_then, did_lost}
 use Rattle.heal.proofs.Storing.{word_keeps, word_storing, words_there, last_keeps, stored}

@@ -1,6 +1,4 @@
-use Rattle.std.proofs.Common.{◌≡◌, ℕ, ◌+◌, ◌<◌, ◌≤◌, true, false, sym, refl, ap, ◌∙◌, arith}
-use Rattle.heal.specs.Invariant.{sweep}
-use Rattle.heal.specs.Turn.{cells}
+use Rattle.std.proofs.Common.{true, false, sym, refl, ap, ◌∙◌, arith}
 use Rattle.heal.proofs.Steps.{able, able_less, after_then, did_and}
 use Rattle.heal.proofs.Turning.{recovered, able_first, turned_lost, turned}
 use Rattle.heal.proofs.slots.turn.Goals as goal

@@ -1,20 +1,12 @@
-use Rattle.std.proofs.Common.{◌≡◌, ℕ, ◌+◌, ◌-◌, ◌*◌, ◌<◌, ◌≤◌, true, false, not, eqb, sym, refl, ap, ◌∙◌, subst, inl, inr, arith}
+use Rattle.std.proofs.Common.{◌≡◌, ◌+◌, ◌*◌, true, false, refl, ap, ◌∙◌, subst, inl, inr, arith}
 use Rattle.std.proofs.lemmas.Bool.Decides.{nat_tests as tests}
 use Rattle.heal.specs.Journal.{viewed}
-use Rattle.heal.specs.Codec.{answer_of}
-use Rattle.heal.specs.Ready.{FirstFrom}
-use Rattle.heal.specs.Kernel.{kept}
-use Rattle.heal.specs.Invariant.{Inv, plus, credit, nothing}
-use Rattle.heal.proofs.Steps.{same_cells, after_none}
+use Rattle.heal.specs.Invariant.{plus}
+use Rattle.heal.proofs.Steps.{after_none}
 use Rattle.heal.specs.Turn.{Gives}
 use Rattle.heal.proofs.Kept.{loose}
 use Rattle.heal.proofs.Sweeping.{give_add}
-use Rattle.heal.proofs.Sweeping.{give_mid, give_pre, begin_gives, begin_keeps}
-use Rattle.heal.specs.Invariant.{last, done, sweep, owed, ready}
-use Rattle.heal.specs.Turn.{cells}
-use Rattle.heal.proofs.Kept.{ready_kept}
-use Rattle.heal.proofs.Steps.{able, able_less, after_then, after_up, did_then, did_ok, did_lost, same_cell, same_box, put_cell, put_box, read_read, inv_exact}
-use Rattle.heal.proofs.Sweeping.{answer_keeps, answer_there, told_keeps, put_other, put_here, clear_gives, less, has_out}
+use Rattle.heal.proofs.Steps.{able, after_then, after_up, did_ok, did_lost}
 use Rattle.heal.proofs.slots.work.Goals as goal
 
 pub loop-n-init : goal.loop-n-init

@@ -1,4 +1,4 @@
-use Rattle.std.proofs.Common.{◌≡◌, ◌+◌, ◌-◌, ◌*◌, ◌≤◌, true}
+use Rattle.std.proofs.Common.{◌-◌, ◌*◌, ◌≤◌, true}
 use Rattle.heal.specs.Turn.{After, Calm, Gives}
 use Rattle.heal.proofs.slots.work.Given as goal
 

@@ -1,4 +1,4 @@
-use Rattle.std.proofs.Common.{◌≡◌, ℕ, ◌+◌, List, ◌++◌, sym, refl, ap, ◌∙◌, append_assoc, append-nil, add-one, arith, rules}
+use Rattle.std.proofs.Common.{◌≡◌, ℕ, ◌+◌, List, ◌++◌, sym, refl, ◌∙◌, append_assoc, append-nil, add-one}
 use Rattle.memory.specs.declared.Note.{Note}
 use Rattle.memory.specs.Notes.{note_at}
 use Rattle.play.specs.Notes.{notes_text, note_text}

@@ -1,4 +1,4 @@
-use Rattle.std.proofs.Common.{◌≡◌, ◌/◌, ◌^◌, eqb, sym, refl, ap}
+use Rattle.std.proofs.Common.{◌/◌, ◌^◌, eqb, ap}
 use Rattle.std.proofs.lemmas.Nat.{and_mask}
 use Rattle.heal.specs.Ready.{has}
 use Rattle.heal.proofs.ready.ReadySet.contains.Goals as goal

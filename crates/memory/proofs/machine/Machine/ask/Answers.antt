@@ -1,5 +1,5 @@
-use Rattle.std.proofs.Common.{sym, refl, ap, ◌∙◌, arith, rules}
-use Rattle.memory.specs.Memory.{kern_of, seen_of, runs_of, waits_of}
+use Rattle.std.proofs.Common.{sym, ◌∙◌, rules}
+use Rattle.memory.specs.Memory.{kern_of, runs_of, waits_of}
 use Rattle.memory.proofs.Scripts.{aside_follows, between_same, cond_same, gone_note, busy_note, gone_kern, busy_kern, runs_past, idle_none}
 use Rattle.memory.proofs.machine.Machine.ask.Goals as goal
 

@@ -1,9 +1,6 @@
-use Rattle.std.proofs.lemmas.Bool.{false≢true, cond-true, cond-false, and_parts}
-use Rattle.std.proofs.Common.{sym, refl, ap, ◌∙◌, rules}
-use Rattle.heal.specs.Kernel.{with_runs}
-use Rattle.memory.specs.declared.Waiting.TheVariants.{Nothing}
-use Rattle.memory.proofs.Arrays.{set_there, nothing_waits}
-use Rattle.memory.specs.Memory.{kern_of, runs_of, waits_of}
+use Rattle.std.proofs.lemmas.Bool.{cond-true, cond-false}
+use Rattle.std.proofs.Common.{sym, refl, ◌∙◌, rules}
+use Rattle.memory.specs.Memory.{kern_of, runs_of}
 use Rattle.memory.proofs.Kernels.{stopped_is, stopped_again}
 use Rattle.memory.proofs.machine.Machine.halt.Goals as goal
 

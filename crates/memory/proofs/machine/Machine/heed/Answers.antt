@@ -1,4 +1,4 @@
-use Rattle.std.proofs.Common.{sym, refl, ap, ◌∙◌, subst, inl, inr}
+use Rattle.std.proofs.Common.{refl, ◌∙◌}
 use Rattle.memory.proofs.Scripts.{at_next, wrong_heeded, between_same, cond_same}
 use Rattle.memory.proofs.machine.Machine.heed.Goals as goal
 

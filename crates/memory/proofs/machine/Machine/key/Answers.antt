@@ -1,4 +1,4 @@
-use Rattle.std.proofs.Common.{Ok, refl, ap, ◌∙◌}
+use Rattle.std.proofs.Common.{Ok, ap, ◌∙◌}
 use Rattle.heal.specs.Kernel.{key_at}
 use Rattle.memory.specs.Memory.{kern_of, seen_of}
 use Rattle.memory.proofs.Fates.{nothing, over, went, plan_kept}

@@ -1,4 +1,4 @@
-use Rattle.std.proofs.Common.{◌≡◌, sym, refl, ap, ◌∙◌, arith}
+use Rattle.std.proofs.Common.{refl, arith}
 use Rattle.memory.proofs.Words.{logged_more}
 use Rattle.memory.proofs.machine.Machine.note.Goals as goal
 

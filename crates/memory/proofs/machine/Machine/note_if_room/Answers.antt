@@ -1,4 +1,4 @@
-use Rattle.std.proofs.Common.{sym, refl, ap, ◌∙◌}
+use Rattle.std.proofs.Common.{sym, ◌∙◌}
 use Rattle.std.proofs.lemmas.Bool.{true≢false, false≢true}
 use Rattle.memory.proofs.Scripts.{refused_seen}
 use Rattle.memory.proofs.machine.Machine.note_if_room.Goals as goal

@@ -1,6 +1,5 @@
-use Rattle.std.proofs.Common.{sym, refl, ap, ◌∙◌, inl, inr, arith, rules}
-use Rattle.std.proofs.lemmas.Bool.{ltb-true, ltb-false}
-use Rattle.memory.specs.Memory.{kern_of, seen_of}
+use Rattle.std.proofs.Common.{sym, refl, ◌∙◌, inl, inr}
+use Rattle.std.proofs.lemmas.Bool.{ltb-false}
 use Rattle.memory.proofs.Scripts.{between_same}
 use Rattle.memory.proofs.machine.Machine.plan_to_fall.Goals as goal
 

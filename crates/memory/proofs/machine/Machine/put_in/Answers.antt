@@ -1,4 +1,3 @@
-use Rattle.std.proofs.lemmas.Bool.{false≢true}
 use Rattle.std.proofs.Common.{refl, rules}
 use Rattle.memory.specs.Memory.{kern_of}
 use Rattle.memory.proofs.Kernels.{put_is}

@@ -1,4 +1,4 @@
-use Rattle.std.proofs.Common.{◌≡◌, ◌-◌, length}
+use Rattle.std.proofs.Common.{◌-◌, length}
 use Rattle.heal.specs.Kernel.{Between}
 use Rattle.memory.specs.Lines.{Went}
 use Rattle.memory.specs.Memory.{kern_of, seen_of}

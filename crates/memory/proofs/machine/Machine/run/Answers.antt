@@ -1,5 +1,5 @@
-use Rattle.std.proofs.lemmas.Bool.{false≢true, cond-true, cond-false}
-use Rattle.std.proofs.Common.{sym, refl, ap, ◌∙◌, rules}
+use Rattle.std.proofs.lemmas.Bool.{cond-true, cond-false}
+use Rattle.std.proofs.Common.{sym, refl, ◌∙◌, rules}
 use Rattle.memory.specs.Memory.{kern_of, runs_of}
 use Rattle.memory.proofs.Kernels.{begun_is, begun_again}
 use Rattle.memory.proofs.machine.Machine.run.Goals as goal

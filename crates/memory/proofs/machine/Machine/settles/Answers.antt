@@ -1,4 +1,4 @@
-use Rattle.std.proofs.Common.{sym, refl, ap, ◌∙◌, inl, inr, ⊎_elim, arith}
+use Rattle.std.proofs.Common.{sym, refl, ◌∙◌, inl, inr, ⊎_elim, arith}
 use Rattle.std.proofs.lemmas.Bool.{lt-ltb, le-ltb, cases_Bool, false≢true}
 use Rattle.memory.proofs.Scripts.{between_same, settles_no, settles_out, settles_on_lem, cond_same}
 use Rattle.memory.proofs.machine.Machine.settles.Goals as goal

@@ -1,6 +1,6 @@
-use Rattle.std.proofs.lemmas.Bool.{false≢true, cond-true, cond-false}
+use Rattle.std.proofs.lemmas.Bool.{cond-true, cond-false}
 use Rattle.std.proofs.Common.{sym, refl, ap, ◌∙◌, arith}
-use Rattle.heal.specs.Kernel.{showed, shows}
+use Rattle.heal.specs.Kernel.{showed}
 use Rattle.memory.specs.Memory.{kern_of}
 use Rattle.memory.proofs.Kernels.{next_place, no_place, showed_is, showed_none}
 use Rattle.memory.proofs.machine.Machine.show_next.Goals as goal

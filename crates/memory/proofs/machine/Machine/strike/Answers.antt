@@ -1,7 +1,7 @@
 use Rattle.std.proofs.Common.{[], ◌∷◌, ◌++◌, sym, refl, ap, ◌∙◌, inl, inr, arith, rules}
 use Rattle.std.proofs.lemmas.Bool.{ltb-false}
 use Rattle.heal.specs.Kernel.{with_screen}
-use Rattle.memory.specs.Memory.{kern_of, seen_of}
+use Rattle.memory.specs.Memory.{kern_of}
 use Rattle.memory.proofs.Fates.{plan_same}
 use Rattle.memory.proofs.Scripts.{refused_between, typed_once, typed_is}
 use Rattle.memory.proofs.machine.Machine.strike.Goals as goal

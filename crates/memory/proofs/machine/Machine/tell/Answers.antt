@@ -1,5 +1,5 @@
-use Rattle.std.proofs.lemmas.Bool.{false≢true, cond-true, cond-false}
-use Rattle.std.proofs.Common.{sym, refl, ap, ◌∙◌, rules}
+use Rattle.std.proofs.lemmas.Bool.{cond-true, cond-false}
+use Rattle.std.proofs.Common.{sym, refl, ◌∙◌, rules}
 use Rattle.memory.specs.Memory.{kern_of, waits_of}
 use Rattle.memory.proofs.Kernels.{answered_is, answered_none}
 use Rattle.memory.proofs.machine.Machine.tell.Goals as goal

@@ -1,4 +1,3 @@
-use Rattle.std.proofs.lemmas.Bool.{false≢true}
 use Rattle.std.proofs.Common.{sym, refl, ◌∙◌, arith}
 use Rattle.memory.specs.Memory.{kern_of, seen_of}
 use Rattle.memory.proofs.Fates.{had_fallen_lem, fell_before_lem}

@@ -1,8 +1,5 @@
-use Rattle.std.proofs.Common.{refl, ap, rules}
-use Rattle.std.proofs.lemmas.Bool.{and_parts, eqb-true}
-use Rattle.heal.specs.Kernel.{with_cell}
-use Rattle.memory.proofs.Arrays.{set_there}
-use Rattle.memory.specs.Memory.{kern_of, cell_of}
+use Rattle.std.proofs.Common.{refl, rules}
+use Rattle.memory.specs.Memory.{kern_of}
 use Rattle.memory.proofs.Kernels.{kept_is}
 use Rattle.memory.proofs.machine.Machine.write_cell.Goals as goal
 

@@ -1,4 +1,4 @@
-use Rattle.std.proofs.Common.{◌≡◌, ◌≤◌, sym, ap, ◌∙◌, subst, arith, rules}
+use Rattle.std.proofs.Common.{◌≡◌, sym, ◌∙◌, arith, rules}
 use Rattle.std.proofs.lemmas.Bool.{and_from, eq-eqb}
 use Rattle.memory.proofs.Falling.{place_at, place_none}
 use Rattle.memory.proofs.machine.Plan.place.Goals as goal
