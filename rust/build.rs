@@ -1,45 +1,52 @@
-// Links the proved crate `play`, which `rt` builds as a static library.
+// Builds with `rt` and links the proved crate `play`, as a static library; and builds the program `station`, which tests run.
 use std::fs;
 use std::path::{Path, PathBuf};
-use std::process::Command;
+use std::process::{Command, Stdio};
 use std::time::SystemTime;
 
-const CRATES: [&str; 4] = ["heal", "script", "memory", "play"];
+const CRATES: [&str; 6] = ["heal", "script", "memory", "play", "play_c", "station"];
+const PARTS: [&str; 3] = ["src", "specs", "proofs"];
 
 fn main() {
     let here = PathBuf::from(std::env::var("CARGO_MANIFEST_DIR").unwrap());
     let root = here.parent().unwrap();
+    let crates = root.join("crates");
+    let archive = crates.join("play_c/out/libplay_c.a");
+    let program = crates.join("station/out/station");
+    let newest = newest_source(root);
+    if changed(&archive) < newest {
+        say(&crates.join("play_c"), &["lib"]);
+    }
+    // `rt` builds a program where it runs it: here on an empty script
+    if changed(&program) < newest {
+        say(&crates.join("station"), &["run"]);
+    }
+    // C callers know the library by this name
     let library = root.join("target/staticlib/libplay.a");
-    if changed(&library) < newest_source(root) {
-        say(root, &["staticlib", "play"]);
-    }
+    fs::create_dir_all(library.parent().unwrap()).expect("a folder for the library");
+    fs::copy(&archive, &library).expect("`rt lib` makes the library");
     println!("cargo:rerun-if-changed=build.rs");
-    println!("cargo:rerun-if-changed={}", library.display());
     println!("cargo:rerun-if-changed={}", root.join("crates.txt").display());
-    for name in CRATES {
-        println!("cargo:rerun-if-changed={}", root.join("crates").join(name).display());
+    for part in parts(root) {
+        println!("cargo:rerun-if-changed={}", part.display());
     }
-    link(library.parent().unwrap(), "play");
-    link(&c_library(root), "rattle_c");
+    println!("cargo:rerun-if-changed={}", archive.display());
+    println!("cargo:rerun-if-changed={}", program.display());
+    println!("cargo:rustc-link-search=native={}", library.parent().unwrap().display());
+    println!("cargo:rustc-link-lib=static=play");
 }
 
-fn link(dir: &Path, name: &str) {
-    println!("cargo:rustc-link-search=native={}", dir.display());
-    println!("cargo:rustc-link-lib=static={name}");
-}
-
-// The folder of the toolchain's C library: beside the guide, whose path `rt doc` tells.
-fn c_library(root: &Path) -> PathBuf {
-    let guide = PathBuf::from(say(root, &["doc"]).trim());
-    guide.parent().unwrap().parent().unwrap().join("lib")
-}
-
-fn say(root: &Path, words: &[&str]) -> String {
-    let done = Command::new("rt").args(words).current_dir(root).output().expect("`rt` runs");
-    let text = String::from_utf8_lossy(&done.stdout).into_owned();
+fn say(folder: &Path, words: &[&str]) {
+    let done = Command::new("rt").args(words).current_dir(folder).stdin(Stdio::null()).output().expect("`rt` runs");
+    let text = String::from_utf8_lossy(&done.stdout);
     let more = String::from_utf8_lossy(&done.stderr);
-    assert!(done.status.success(), "rt {} failed:\n{text}{more}", words.join(" "));
-    text
+    assert!(done.status.success(), "rt {} failed in {}:\n{text}{more}", words.join(" "), folder.display());
+}
+
+// The folders that are read of each crate; what `rt` makes lies beside them.
+fn parts(root: &Path) -> Vec<PathBuf> {
+    let of = |name: &&str| PARTS.map(|part| root.join("crates").join(name).join(part));
+    CRATES.iter().flat_map(of).filter(|part| part.is_dir()).collect()
 }
 
 // When a file was last changed; the oldest time of all if it isn't there.
@@ -49,8 +56,8 @@ fn changed(path: &Path) -> SystemTime {
 
 fn newest_source(root: &Path) -> SystemTime {
     let mut newest = changed(&root.join("crates.txt"));
-    for name in CRATES {
-        newest = newest.max(newest_in(&root.join("crates").join(name)));
+    for part in parts(root) {
+        newest = newest.max(newest_in(&part));
     }
     newest
 }

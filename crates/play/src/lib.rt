@@ -76,8 +76,7 @@ fn play_sections(
 
 // Plays the script, and writes what happens to `out`. Of `memory` a machine's cells are the first 73,728 words; the rest is for the
 // screen, the keys and the notes of a section, eight words for each thing that happens.
-#[unsafe(no_mangle)]
-pub extern "C" fn play(script: &[u8], memory: &mut [u64], out: &mut [u8]) -> Played
+pub fn play(script: &[u8], memory: &mut [u64], out: &mut [u8]) -> Played
     ensures fits { result.printed ≤ length out.old }
     ensures short { length memory.old < 139264 → (result.printed ≡ 0) × (result.whole ≡ false) }
 {

@@ -13,13 +13,13 @@ pub fn text_of(script: &str) -> String {
 
 /// What the program writes, what it says on standard error, and its status.
 pub fn run_program(script: &[u8]) -> (Vec<u8>, String, Option<i32>) {
-    let program = PathBuf::from(env!("CARGO_MANIFEST_DIR")).join("../target/bin/station");
+    let program = PathBuf::from(env!("CARGO_MANIFEST_DIR")).join("../crates/station/out/station");
     let mut child = Command::new(&program)
         .stdin(Stdio::piped())
         .stdout(Stdio::piped())
         .stderr(Stdio::piped())
         .spawn()
-        .unwrap_or_else(|e| panic!("{}: {e}; `rt check` builds it", program.display()));
+        .unwrap_or_else(|e| panic!("{}: {e}; `rt run` in crates/station builds it", program.display()));
     child.stdin.take().unwrap().write_all(script).unwrap();
     let done = child.wait_with_output().unwrap();
     (done.stdout, String::from_utf8_lossy(&done.stderr).into_owned(), done.status.code())

@@ -1,0 +1,14 @@
+// What other languages call: the library's function, under the name and with the clauses that it has there.
+#![tactic(auto)]
+
+ghost use Rattle.std.specs.Prelude.{◌≡◌, ◌<◌, ◌≤◌, false, length};
+
+use play::Played;
+
+#[unsafe(no_mangle)]
+pub extern "C" fn play(script: &[u8], memory: &mut [u64], out: &mut [u8]) -> Played
+    ensures fits { result.printed ≤ length out.old }
+    ensures short { length memory.old < 139264 → (result.printed ≡ 0) × (result.whole ≡ false) }
+{
+    play::play(script, memory, out)
+}
