@@ -5,6 +5,7 @@ usage: python3 tools/respell.py     in the repository, once, after the kit's por
 
 tools/respelled.tsv has a row for each name: old, a tab, new. Whole words turn, all in one pass, so that two names may change places;
 a name with a dash stays behind a dot, since goals have such names. Files: .antt and .rt below crates/, and code spans of README.md and docs/.
+A second run would turn names that are new already: where no old name with a capital inside is left, it writes nothing.
 """
 import os
 import re
@@ -40,9 +41,16 @@ def files():
                 yield os.path.join(folder, name), lambda text: SPAN.sub(lambda m: turned(m.group(0)), text)
 
 
+TEXTS = []
 for path, turn in files():
     with open(path, encoding="utf-8") as f:
-        old = f.read()
+        TEXTS.append((path, turn, f.read()))
+
+OLD = {name for name in ROWS if re.search("[a-z][A-Z]", name)}
+if not any(OLD.intersection(WORD.findall(text)) for path, _, text in TEXTS if not path.endswith(".md")):
+    raise SystemExit("respell: the names have the new spelling already; nothing was written")
+
+for path, turn, old in TEXTS:
     new = turn(old)
     if new != old:
         with open(path, "w", encoding="utf-8") as f:
