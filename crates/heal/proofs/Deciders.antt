@@ -2,7 +2,7 @@
 -- Assumes nothing.
 use Rattle.std.proofs.Common.{◌≡◌, ℕ, zero, suc, ◌+◌, ◌-◌, ◌*◌, ◌%◌, ◌<◌, ◌≤◌, Bool, true, false, cond, not, ◌&&◌, ◌||◌, T, eqb, leb, ◌⊎◌, List, [], ◌∷◌, length, get_or, Some, None, sym, refl, ap, ◌∙◌, subst, subst₂, inl, ⊎_elim, arith}
 use Rattle.std.proofs.lemmas.Bool.Decides.{nat_tests as tests}
-use Rattle.std.proofs.lemmas.Bool.{cases_eq}
+use Rattle.std.proofs.lemmas.Bool.{cases_eq, eqb-true}
 use Rattle.heal.specs.declared.Call.{Call}
 use Rattle.heal.specs.declared.Call.TheVariants.{Spawn, Exit, Wait, Kill, Open, Close, Read, Write, Remove, Take, Leave, Say, Hear}
 use Rattle.heal.specs.declared.Answer.{Answer}
@@ -19,19 +19,11 @@ use Rattle.heal.proofs.FileCells.{some_none, files_same}
 use Rattle.heal.proofs.Standing.{lawful}
 use Rattle.heal.proofs.Mail.{set_same}
 use Rattle.heal.proofs.FileCalls.{open_no1, open_no2, open_no8, open_no13, open_done, close_no4, close_done, read_no4, read_no5, read_done, write_no4, write_no6, write_no5, write_done, remove_no1, remove_no2, remove_no8, remove_done}
-use Rattle.heal.proofs.Moments.{even_other}
+use Rattle.heal.proofs.Moments.{ahead_not, even_ahead, even_other}
 
 -- whether c says a word
 abbrev NotSay : Call → Type 0
 NotSay c = (x : ℕ) → c ≡ Say x → ⊥
-
-ahead_even : (σ p at shown len : ℕ) → eqb len shown ≡ true → ahead σ p at shown len ≡ false
-unfolding ahead
-ahead_even σ p at shown len e = grind (arith, tests)
-
-ahead_away : (σ p at shown len : ℕ) → (σ ≡ 2 → ⊥) → ahead σ p at shown len ≡ false
-unfolding ahead
-ahead_away σ p at shown len n = grind (arith, tests)
 
 is_under : (c : Call) (g : ℕ) (b : Bool) → b ≡ false → cond b (Over c Done g) (Under c g) ≡ Under c g
 is_under c g b e = ap (λ z. cond z (Over c Done g) (Under c g)) e
@@ -48,8 +40,8 @@ module _ (p : ℕ) (c : Call) (k : Kern) (z : Standing p c k) (s : State) (d : D
   under_even e g b =
       b ∙ is_under c g _
       (⊎_elim
-      (λ (y : server_of c ≡ 2). ahead_even (server_of c) p (sweep (k.cell 2)) (shown_in (k.cell 2)) (length k.screen) (e (sym z.here ∙ y)))
-      (λ y. ahead_away (server_of c) p (sweep (k.cell 2)) (shown_in (k.cell 2)) (length k.screen) y) (cases_eq (server_of c) 2))
+      (λ (y : server_of c ≡ 2). even_ahead (server_of c) p (sweep (k.cell 2)) (shown_in (k.cell 2)) (length k.screen) (e (sym z.here ∙ y)))
+      (λ y. ahead_not (server_of c) p (sweep (k.cell 2)) (shown_in (k.cell 2)) (length k.screen) y) (cases_eq (server_of c) 2))
 
   -- the desk as it is
   pub shut_same : (k.at ≡ 2 → eqb (length k.screen) (shown_in (k.cell 2)) ≡ true) → (f : ℕ → ℕ → ℕ) → f 2 52 ≡ k.cell 2 52 → f 2 53 ≡ k.cell 2 53 → f 2 54 ≡ k.cell 2 54 → (t : State) → t.owner ≡ s.owner → t.heard ≡ s.heard → t.keys ≡ s.keys → t.screen ≡ s.screen → Shut (f 2) k.at k.screen k.keys (k.cell 2) t
@@ -59,13 +51,10 @@ module _ (p : ℕ) (c : Call) (k : Kern) (z : Standing p c k) (s : State) (d : D
         hears = b ∙ (d.hears ∙ sym w);
         typed = u ∙ d.typed;
         shows = v ∙ d.shows;
-        places = λ q. eqb_is (length k.screen) (shown_in (k.cell 2)) (e q) ∙ sym y;
+        places = λ q. eqb-true (length k.screen) (shown_in (k.cell 2)) (e q) ∙ sym y;
         same = λ _. (x, y);
         few = omega arith;
       }
-    where
-      eqb_is : (m n : ℕ) → eqb m n ≡ true → m ≡ n
-      eqb_is m n h = grind (arith, tests)
 
 -- a refusal: nothing is written
 refused : (p : ℕ) (c : Call) (m : ℕ) (k : Kern) (es : List Event) → Standing p c k → T (can c) → ((s : State) → DeskIs (k.cell 2) k.screen k.keys k.pending s → k.at ≡ 2 → eqb (length k.screen) (shown_in (k.cell 2)) ≡ true) →
@@ -193,7 +182,7 @@ far_cell j h c = grind arith
 in_desk : (σ j : ℕ) → j < 64 → j + 17 < cells_of σ
 in_desk σ j h = grind (arith, tests)
 
-in_files : (σ j : ℕ) → σ ≡ 1 → j < 65000 → j + 17 < cells_of σ
+pub in_files : (σ j : ℕ) → σ ≡ 1 → j < 65000 → j + 17 < cells_of σ
 in_files σ j e h = grind (arith, tests)
 
 -- keys
@@ -213,6 +202,18 @@ ahead_one : (p shown len n : ℕ) → shown ≡ n → len ≡ n + 1 → ahead 2 
 unfolding ahead
 ahead_one p shown len n e f = grind (arith, tests)
 
+-- the calls that are refused to all but the desk's owner
+pub data OwnersCall : Call → Type 0 where
+  leaves : OwnersCall Leave
+  says : (x : ℕ) → OwnersCall (Say x)
+  hears : OwnersCall Hear
+
+owners_built : {c : Call} → OwnersCall c → T (can c)
+unfolding core
+owners_built leaves = tt
+owners_built (says x) = tt
+owners_built hears = tt
+
 -- the desk
 module _ (p : ℕ) (k : Kern) (es : List Event) (two : k.at ≡ 2) where
   write_own : (j x : ℕ) → (kept j x k).cell 2 j ≡ x
@@ -222,10 +223,7 @@ module _ (p : ℕ) (k : Kern) (es : List Event) (two : k.at ≡ 2) where
   files_kept s j x f = files_same (k.cell 1) ((kept j x k).cell 1) s.file s.hand (λ i _. one_away k j x 1 i (λ e. (let z : ◌≡◌ {A = ℕ} 1 2 = e ∙ two in omega arith))) f
 
   even_len : (c : Call) → Standing p c k → NotSay c → (s : State) → DeskIs (k.cell 2) k.screen k.keys k.pending s → length k.screen ≡ shown_in (k.cell 2)
-  even_len c z n s d = eqb_is (length k.screen) (shown_in (k.cell 2)) (even_here p c k z s d n two)
-    where
-      eqb_is : (m n : ℕ) → eqb m n ≡ true → m ≡ n
-      eqb_is m n h = grind (arith, tests)
+  even_len c z n s d = eqb-true (length k.screen) (shown_in (k.cell 2)) (even_here p c k z s d n two)
 
   not_take : NotSay Take
   not_take x e = let z : ◌≡◌ {A = ℕ} 0 1 = cc in omega arith
@@ -236,6 +234,27 @@ module _ (p : ℕ) (k : Kern) (es : List Event) (two : k.at ≡ 2) where
   not_hear : NotSay Hear
   not_hear x e = let z : ◌≡◌ {A = ℕ} 0 1 = cc in omega arith
 
+  -- no word is ahead of another than the owner
+  even_apart : (c : Call) → Standing p c k → (owner_in (k.cell 2) ≡ p → ⊥) → (s : State) → DeskIs (k.cell 2) k.screen k.keys k.pending s → eqb (length k.screen) (shown_in (k.cell 2)) ≡ true
+  even_apart c z n s d = by (eqb (length k.screen) (shown_in (k.cell 2))) d.places
+    where
+      by : (b : Bool) → (b ≡ false → Early (k.cell 2) (length k.screen) k.pending) → b ≡ true
+      by true f = refl
+      by false f = let e = f refl in absurd (n (e.own ∙ subst (λ σ. sweep (k.cell σ) ≡ p) two z.at))
+
+  turned : {c : Call} → OwnersCall c → (s : State) → eqb s.owner p ≡ false → (does 0 s p c ≡ Gives (No 9) s) × (waits_in s p c ≡ false)
+  unfolding does waits_in
+  turned leaves s e = (rw e, refl)
+  turned (says x) s e = (rw e, refl)
+  turned hears s e = (rw e, rw e)
+
+  -- the desk isn't p's own
+  pub not_own : {c : Call} → OwnersCall c → Standing p c k → (owner_in (k.cell 2) ≡ p → ⊥) → Decided p c (No 9) [] k es
+  not_own {c = c} w z n = refused p c 9 k es z (owners_built w) (λ s d _. even_apart c z n s d) (λ s r d f. turned w s (not_equal s.owner p (λ e. n (sym d.owns ∙ e))))
+    where
+      not_equal : (o p : ℕ) → (o ≡ p → ⊥) → eqb o p ≡ false
+      not_equal o p n = grind (arith, tests)
+
   -- the desk is another's
   pub take_no9 : Standing p Take k → (owner_in (k.cell 2) ≡ 0 → ⊥) → (owner_in (k.cell 2) ≡ p → ⊥) → Decided p Take (No 9) [] k es
   unfolding core does waits_in
@@ -244,78 +263,46 @@ module _ (p : ℕ) (k : Kern) (es : List Event) (two : k.at ≡ 2) where
       owner_no : (o w p : ℕ) (s : State) → o ≡ w → (w ≡ 0 → ⊥) → (w ≡ p → ⊥) → cond (eqb o 0 || eqb o p) (Gives Done (set_desk p s.screen s.keys s.heard s)) (Gives (No 9) s) ≡ Gives (No 9) s
       owner_no o w p s e a b = grind (arith, tests)
 
-  pub take_done : Standing p Take k → (owner_in (k.cell 2) ≡ 0) ⊎ (owner_in (k.cell 2) ≡ p) → Decided p Take Done ((52, p) ∷ []) k es
-  unfolding core does fits ends waits_in kept_all Within
-  take_done z o =
-      acted p Take Done ((52, p) ∷ []) k es z tt not_take (λ s. tt) tt (omega arith) (in_desk k.at 52 (omega arith), tt) (own_cell 52 (omega arith, omega arith), tt)
+  -- the desk goes to w, if not to nobody
+  owner_written : (c : Call) (w : ℕ) → Standing p c k → T (can c) → NotSay c → ((s : State) → T (fits 0 s p c)) → T (not (ends p c)) → ((s : State) → DeskIs (k.cell 2) k.screen k.keys k.pending s → (does 0 s p c ≡ Gives Done (set_desk w s.screen s.keys s.heard s)) × (waits_in s p c ≡ false)) → Decided p c Done ((52, w) ∷ []) k es
+  unfolding kept_all Within
+  owner_written c w z b n fi en h =
+      acted p c Done ((52, w) ∷ []) k es z b n fi en (omega arith) (in_desk k.at 52 (omega arith), tt) (own_cell 52 (omega arith, omega arith), tt)
       (λ s r d f.
       record {
-        t = set_desk p s.screen s.keys s.heard s;
-        gives = owner_yes s.owner (owner_in (k.cell 2)) p s d.owns o;
+        t = set_desk w s.screen s.keys s.heard s;
+        gives = (h s d).0;
         procs = refl;
         ons = refl;
         nows = refl;
-        ready = refl;
+        ready = (h s d).1;
         desk = record {
-          owns = sym (write_own 52 p);
-          hears = d.hears ∙ sym (one_else k 52 p 2 54 (λ e. omega arith));
+          owns = sym (write_own 52 w);
+          hears = d.hears ∙ sym (one_else k 52 w 2 54 (λ e. omega arith));
           typed = d.typed;
           shows = d.shows;
-          places = λ _. even_len Take z not_take s d ∙ sym (one_else k 52 p 2 53 (λ e. omega arith));
+          places = λ _. even_len c z n s d ∙ sym (one_else k 52 w 2 53 (λ e. omega arith));
           same = λ y. absurd (y two);
-          few = (let a = one_else k 52 p 2 53 (λ e. omega arith) in let b = one_else k 52 p 2 54 (λ e. omega arith) in omega arith);
+          few = (let a = one_else k 52 w 2 53 (λ e. omega arith) in let b = one_else k 52 w 2 54 (λ e. omega arith) in omega arith);
         };
-        files = files_kept s 52 p f;
+        files = files_kept s 52 w f;
       })
+
+  pub take_done : Standing p Take k → (owner_in (k.cell 2) ≡ 0) ⊎ (owner_in (k.cell 2) ≡ p) → Decided p Take Done ((52, p) ∷ []) k es
+  unfolding core does fits ends waits_in
+  take_done z o = owner_written Take p z tt not_take (λ s. tt) tt (λ s d. (owner_yes s.owner (owner_in (k.cell 2)) p s d.owns o, refl))
     where
       owner_yes : (o w p : ℕ) (s : State) → o ≡ w → (w ≡ 0) ⊎ (w ≡ p) → cond (eqb o 0 || eqb o p) (Gives Done (set_desk p s.screen s.keys s.heard s)) (Gives (No 9) s) ≡ Gives Done (set_desk p s.screen s.keys s.heard s)
       owner_yes o w p s e h = grind (arith, tests)
 
-  pub leave_no9 : Standing p Leave k → (owner_in (k.cell 2) ≡ p → ⊥) → Decided p Leave (No 9) [] k es
-  unfolding core does waits_in
-  leave_no9 z b = refused p Leave 9 k es z tt (λ s d. even_here p Leave k z s d not_leave) (λ s r d f. (let e = d.owns in (owner_no s.owner (owner_in (k.cell 2)) p s e b, refl)))
-    where
-      owner_no : (o w p : ℕ) (s : State) → o ≡ w → (w ≡ p → ⊥) → cond (eqb o p) (Gives Done (set_desk 0 s.screen s.keys s.heard s)) (Gives (No 9) s) ≡ Gives (No 9) s
-      owner_no o w p s e b = grind (arith, tests)
-
   pub leave_done : Standing p Leave k → owner_in (k.cell 2) ≡ p → Decided p Leave Done ((52, 0) ∷ []) k es
-  unfolding core does fits ends waits_in kept_all Within
-  leave_done z o =
-      acted p Leave Done ((52, 0) ∷ []) k es z tt not_leave (λ s. tt) tt (omega arith) (in_desk k.at 52 (omega arith), tt) (own_cell 52 (omega arith, omega arith), tt)
-      (λ s r d f.
-      record {
-        t = set_desk 0 s.screen s.keys s.heard s;
-        gives = owner_yes s.owner (owner_in (k.cell 2)) p s d.owns o;
-        procs = refl;
-        ons = refl;
-        nows = refl;
-        ready = refl;
-        desk = record {
-          owns = sym (write_own 52 0);
-          hears = d.hears ∙ sym (one_else k 52 0 2 54 (λ e. omega arith));
-          typed = d.typed;
-          shows = d.shows;
-          places = λ _. even_len Leave z not_leave s d ∙ sym (one_else k 52 0 2 53 (λ e. omega arith));
-          same = λ y. absurd (y two);
-          few = (let a = one_else k 52 0 2 53 (λ e. omega arith) in let b = one_else k 52 0 2 54 (λ e. omega arith) in omega arith);
-        };
-        files = files_kept s 52 0 f;
-      })
+  unfolding core does fits ends waits_in
+  leave_done z o = owner_written Leave 0 z tt not_leave (λ s. tt) tt (λ s d. (owner_yes s.owner (owner_in (k.cell 2)) p s d.owns o, refl))
     where
       owner_yes : (o w p : ℕ) (s : State) → o ≡ w → w ≡ p → cond (eqb o p) (Gives Done (set_desk 0 s.screen s.keys s.heard s)) (Gives (No 9) s) ≡ Gives Done (set_desk 0 s.screen s.keys s.heard s)
       owner_yes o w p s e h = grind (arith, tests)
 
   -- a key, or none
-  pub hear_no9 : Standing p Hear k → (owner_in (k.cell 2) ≡ p → ⊥) → Decided p Hear (No 9) [] k es
-  unfolding core does waits_in
-  hear_no9 z b = refused p Hear 9 k es z tt (λ s d. even_here p Hear k z s d not_hear) (λ s r d f. (let e = d.owns in (owner_no s.owner (owner_in (k.cell 2)) p s _ e b, ready_no s.owner (owner_in (k.cell 2)) p _ e b)))
-    where
-      owner_no : (o w p : ℕ) (s : State) (x : Outcome) → o ≡ w → (w ≡ p → ⊥) → cond (not (eqb o p)) (Gives (No 9) s) x ≡ Gives (No 9) s
-      owner_no o w p s x e b = grind (arith, tests)
-
-      ready_no : (o w p : ℕ) (x : Bool) → o ≡ w → (w ≡ p → ⊥) → (eqb o p && x) ≡ false
-      ready_no o w p x e b = grind (arith, tests)
-
   pub hear_waits : Standing p Hear k → owner_in (k.cell 2) ≡ p → key_at (heard_in (k.cell 2)) k.keys ≡ None → (b : ℕ → ℕ) (i : Inv b k es) → waits_in i.0 p Hear ≡ true
   unfolding waits_in
   hear_waits z o h b i = (let d = i.2.desk in waits_at i.0.owner p (length i.0.keys) i.0.heard (d.owns ∙ o) (subst₂ (λ ks n. length ks ≤ n) (sym d.typed) (sym d.hears) (none_left (heard_in (k.cell 2)) k.keys h)))
@@ -359,21 +346,6 @@ module _ (p : ℕ) (k : Kern) (es : List Event) (two : k.at ≡ 2) where
 
       grow : (s a b c d n : ℕ) → s ≡ 2 → a ≡ c → b ≡ n + 1 → d ≡ n → a + b ≤ c + d + cond (eqb s 2) 1 0
       grow s a b c d n e x y z = grind (arith, tests)
-
-  -- a word
-  pub say_even : (x : ℕ) → Standing p (Say x) k → (owner_in (k.cell 2) ≡ p → ⊥) → (s : State) → DeskIs (k.cell 2) k.screen k.keys k.pending s → eqb (length k.screen) (shown_in (k.cell 2)) ≡ true
-  say_even x z n s d = by (eqb (length k.screen) (shown_in (k.cell 2))) d.places
-    where
-      by : (b : Bool) → (b ≡ false → Early (k.cell 2) (length k.screen) k.pending) → b ≡ true
-      by true f = refl
-      by false f = let e = f refl in absurd (n (e.own ∙ subst (λ σ. sweep (k.cell σ) ≡ p) two z.at))
-
-  pub say_no9 : (x : ℕ) → Standing p (Say x) k → (owner_in (k.cell 2) ≡ p → ⊥) → Decided p (Say x) (No 9) [] k es
-  unfolding core does waits_in
-  say_no9 x z b = refused p (Say x) 9 k es z tt (λ s d _. say_even x z b s d) (λ s r d f. (let e = d.owns in (owner_no s.owner (owner_in (k.cell 2)) p s e b, refl)))
-    where
-      owner_no : (o w p : ℕ) (s : State) → o ≡ w → (w ≡ p → ⊥) → cond (eqb o p) Waits (Gives (No 9) s) ≡ Gives (No 9) s
-      owner_no o w p s e b = grind (arith, tests)
 
   -- it's on the screen: the cells say so too
   pub say_done : (n x : ℕ) → Standing p (Say x) k → owner_in (k.cell 2) ≡ p → shown_in (k.cell 2) ≡ n → length k.screen ≡ n + 1 → Decided p (Say x) Done ((53, n + 1) ∷ []) k es

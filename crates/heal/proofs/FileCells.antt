@@ -2,9 +2,9 @@
 -- Assumes nothing.
 use Rattle.std.proofs.Common.{◌≡◌, ℕ, zero, suc, ◌+◌, ◌-◌, ◌*◌, ◌<◌, ◌≤◌, Bool, true, false, cond, not, ◌&&◌, ◌||◌, T, eqb, leb, ◌⊎◌, [], length, get_or, sym, refl, ap, ◌∙◌, subst, subst₂, suc-mul, arith}
 use Rattle.std.proofs.lemmas.Bool.Decides.{nat_tests as tests}
-use Rattle.heal.specs.declared.Call.TheVariants.{Open, Close, Read, Write, Remove}
-use Rattle.heal.specs.declared.Answer.TheVariants.{Done, No, Handle, Word}
-use Rattle.heal.specs.House.{File, Missing, There, Hand, Empty, On, State, Gives, fresh, some', first, missing, words, is_on, is_empty, name_of, writes_of, opened, clash, set_file, give_hand, write_in, does}
+use Rattle.heal.specs.declared.Call.TheVariants.{Open, Read}
+use Rattle.heal.specs.declared.Answer.TheVariants.{Handle, Word}
+use Rattle.heal.specs.House.{File, There, Hand, Empty, On, State, Gives, fresh, some', first, missing, words, is_on, is_empty, name_of, opened, clash, set_file, give_hand, does}
 use Rattle.heal.specs.Files.{size_at, users_at, hand_at, word_at, name_in, writes_in, hand_of, size_of, sum, tally, users_from, FilesAre, opened_by}
 use Rattle.heal.proofs.Lawful.{some_at}
 
@@ -190,22 +190,6 @@ short_size z x e m = grind (arith, tests)
 
 -- what a call comes to, by what it asks of the state
 module _ (k p : ℕ) (s : State) where
-  pub does_open_no1 : (n : ℕ) (w : Bool) → 64 ≤ n → does k s p (Open n w) ≡ Gives (No 1) s
-  unfolding does
-  does_open_no1 n w l = grind (arith, tests)
-
-  pub does_open_no2 : (n : ℕ) (w : Bool) → n < 64 → missing (s.file n) ≡ true → w ≡ false → does k s p (Open n w) ≡ Gives (No 2) s
-  unfolding does
-  does_open_no2 n w l e b = grind (arith, tests)
-
-  pub does_open_no8 : (n : ℕ) (w : Bool) → n < 64 → (missing (s.file n) && not w) ≡ false → clash s n w ≡ true → does k s p (Open n w) ≡ Gives (No 8) s
-  unfolding does
-  does_open_no8 n w l e b = grind (arith, tests)
-
-  pub does_open_no13 : (n : ℕ) (w : Bool) → n < 64 → (missing (s.file n) && not w) ≡ false → clash s n w ≡ false → some' 8 (λ (h : ℕ). is_empty (s.hand p h)) ≡ false → does k s p (Open n w) ≡ Gives (No 13) s
-  unfolding does
-  does_open_no13 n w l e b c = grind (arith, tests)
-
   open_state : (b : Bool) (n : ℕ) (w : Bool) (e : ℕ) → give_hand p e (On n w) (cond b (set_file n (There []) s) s) ≡
       give_hand p e (On n w) (record { proc = s.proc; on = s.on; now' = s.now'; file = λ m. cond (b && eqb m n) (There []) (s.file m); hand = s.hand; owner = s.owner; screen = s.screen; keys = s.keys; heard = s.heard })
   open_state true n w e = refl
@@ -220,71 +204,11 @@ module _ (k p : ℕ) (s : State) where
   does_open n w e l a b c g =
       does_open_first n w l a b c ∙ ap (λ j. Gives (Handle j) (give_hand p j (On n w) (cond (missing (s.file n)) (set_file n (There []) s) s))) g ∙ ap (λ t. Gives (Handle e) t) (open_state (missing (s.file n)) n w e)
 
-  pub does_close_no4 : (h : ℕ) → (leb 8 h || is_empty (s.hand p h)) ≡ true → does k s p (Close h) ≡ Gives (No 4) s
-  unfolding does
-  does_close_no4 h e = grind (arith, tests)
-
-  pub does_close : (h n : ℕ) (w : Bool) → h < 8 → s.hand p h ≡ On n w → does k s p (Close h) ≡ Gives Done (give_hand p h Empty s)
-  unfolding does is_empty
-  does_close h n w l e = grind (arith, tests)
-
-  pub does_read_no4 : (h a : ℕ) → (leb 8 h || is_empty (s.hand p h)) ≡ true → does k s p (Read h a) ≡ Gives (No 4) s
-  unfolding does
-  does_read_no4 h a e = grind (arith, tests)
-
-  pub does_read_no5 : (h a n : ℕ) (w : Bool) → h < 8 → s.hand p h ≡ On n w → length (words (s.file n)) ≤ a → does k s p (Read h a) ≡ Gives (No 5) s
-  unfolding does is_empty name_of
-  does_read_no5 h a n w l e z = grind (arith, tests)
-
   pub does_read : (h a n : ℕ) (w : Bool) → h < 8 → s.hand p h ≡ On n w → a < length (words (s.file n)) → does k s p (Read h a) ≡ Gives (Word (get_or (words (s.file n)) a 0)) s
   unfolding does is_empty name_of
   does_read h a n w l e z = grind (arith, tests)
 
-  pub does_write_no4 : (h a x : ℕ) → (leb 8 h || is_empty (s.hand p h)) ≡ true → does k s p (Write h a x) ≡ Gives (No 4) s
-  unfolding does
-  does_write_no4 h a x e = grind (arith, tests)
-
-  pub does_write_no6 : (h a x n : ℕ) → h < 8 → s.hand p h ≡ On n false → does k s p (Write h a x) ≡ Gives (No 6) s
-  unfolding does is_empty writes_of
-  does_write_no6 h a x n l e = grind (arith, tests)
-
-  pub does_write_no5 : (h a x n : ℕ) → h < 8 → s.hand p h ≡ On n true → (length (words (s.file n)) < a) ⊎ (256 ≤ a) → does k s p (Write h a x) ≡ Gives (No 5) s
-  unfolding does is_empty name_of writes_of
-  does_write_no5 h a x n l e z = grind (arith, tests)
-
-  pub does_write : (h a x n : ℕ) → h < 8 → s.hand p h ≡ On n true → a ≤ length (words (s.file n)) → a < 256 → does k s p (Write h a x) ≡ Gives Done (set_file n (There (write_in a x (words (s.file n)))) s)
-  unfolding does is_empty name_of writes_of
-  does_write h a x n l e z m = grind (arith, tests)
-
-  pub does_remove_no1 : (n : ℕ) → 64 ≤ n → does k s p (Remove n) ≡ Gives (No 1) s
-  unfolding does
-  does_remove_no1 n l = grind (arith, tests)
-
-  pub does_remove_no2 : (n : ℕ) → n < 64 → missing (s.file n) ≡ true → does k s p (Remove n) ≡ Gives (No 2) s
-  unfolding does
-  does_remove_no2 n l e = grind (arith, tests)
-
-  pub does_remove_no8 : (n : ℕ) → n < 64 → missing (s.file n) ≡ false → opened s n false ≡ true → does k s p (Remove n) ≡ Gives (No 8) s
-  unfolding does
-  does_remove_no8 n l e o = grind (arith, tests)
-
-  pub does_remove : (n : ℕ) → n < 64 → missing (s.file n) ≡ false → opened s n false ≡ false → does k s p (Remove n) ≡ Gives Done (set_file n Missing s)
-  unfolding does
-  does_remove n l e o = grind (arith, tests)
-
 -- tests
-pub zero_test : {b : Bool} {z : ℕ} → b ≡ eqb z 0 → z ≡ 0 → b ≡ true
-zero_test e h = grind (arith, tests)
-
-pub not_zero_test : {b : Bool} {z : ℕ} → b ≡ eqb z 0 → (z ≡ 0 → ⊥) → b ≡ false
-not_zero_test e h = grind (arith, tests)
-
-pub is_eq : (a b : ℕ) → a ≡ b → eqb a b ≡ true
-is_eq a b e = grind (arith, tests)
-
-pub not_eq : (a b : ℕ) → (a ≡ b → ⊥) → eqb a b ≡ false
-not_eq a b e = grind (arith, tests)
-
 pub holds : {b : Bool} → b ≡ true → T b
 holds e = grind (arith, tests)
 

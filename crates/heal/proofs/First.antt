@@ -11,13 +11,13 @@ use Rattle.heal.proofs.Storing.{head_fine}
 
 pub first_is : (xs : List Msg) (o : Option Msg) (m : Msg) → o ≡ first_of xs → o ≡ Some m → (ms : List Msg) × (xs ≡ m ∷ ms)
 unfolding first_of
-first_is [] o m e f = let z : ◌≡◌ {A = ℕ} 0 1 = cc in absurd (omega arith)
+first_is [] o m e f = absurd (cc)
 first_is (x ∷ xs) o m e f = (xs, cc)
 
 pub first_no : (xs : List Msg) (o : Option Msg) → o ≡ first_of xs → o ≡ None → xs ≡ []
 unfolding first_of
 first_no [] o e f = refl
-first_no (x ∷ xs) o e f = let z : ◌≡◌ {A = ℕ} 0 1 = cc in absurd (omega arith)
+first_no (x ∷ xs) o e f = absurd (cc)
 
 pub no_tells : (a : ℕ → ℕ) (k : Kern) (es : List Event) (f t x y z : ℕ) (ms : List Msg) → k.box k.at ≡ Tells f t x y z ∷ ms → Inv a k es → ⊥
 no_tells a k es f t x y z ms e i = (subst (All (MsgOk k.pending (k.cell k.at) k.at)) e (i.2.mail k.at).fine).0

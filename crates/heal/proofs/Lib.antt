@@ -5,7 +5,6 @@ pub mod Theorems
 pub mod FileCells
 pub mod FileMoves
 pub mod FileCalls
-pub mod Sets
 pub mod Cells
 pub mod Atomics
 pub mod Meant
@@ -15,11 +14,15 @@ pub mod Moments
 pub mod Told
 pub mod Deciders
 pub mod Steps
+pub mod Telling
+pub mod Looking
 pub mod Finishing
+pub mod Ending
 pub mod Serving
 pub mod First
 pub mod Storing
 pub mod Holding
 pub mod Sweeping
+pub mod Advancing
 pub mod Turning
 pub mod Rounds

@@ -37,7 +37,11 @@ ahead_own : (σ p shown len : ℕ) → ahead σ p (64 + p) shown len ≡ false
 unfolding ahead
 ahead_own σ p shown len = grind (arith, tests)
 
-ahead_not : (σ p at shown len : ℕ) → (σ ≡ 2 → ⊥) → ahead σ p at shown len ≡ false
+pub even_ahead : (σ p at shown len : ℕ) → eqb len shown ≡ true → ahead σ p at shown len ≡ false
+unfolding ahead
+even_ahead σ p at shown len e = grind (arith, tests)
+
+pub ahead_not : (σ p at shown len : ℕ) → (σ ≡ 2 → ⊥) → ahead σ p at shown len ≡ false
 unfolding ahead
 ahead_not σ p at shown len n = grind (arith, tests)
 

@@ -23,8 +23,8 @@ pub record Good (a : ℕ → ℕ) (b : Bool) (k : Kern) (es : List Event) : Type
 abbrev pub Stands : Kern → List Event → Type 0
 Stands k es = (k.fell ≡ false) × Sound k × Inv nothing (viewed k) es
 
-few : (σ : ℕ) → nothing σ ≤ 1000
-few σ = omega arith
+pub few0 : (σ : ℕ) → nothing σ ≤ 1000
+few0 σ = omega arith
 
 pub good_start : (k : Kern) (es : List Event) → AtStart k → es ≡ [] → Stands k es
 good_start k es h e = (h.8, start_sound k h, subst (Inv nothing (viewed k)) (sym e) (start_kept (viewed k) (start_viewed k h)))
@@ -33,7 +33,7 @@ pub good_loop : (k : Kern) (es : List Event) → Stands k es → Good nothing tr
 good_loop k es h = record { up = h.0; sound = h.1; inv = h.2; rich = λ _. h.2 }
 
 pub good_between : (a : ℕ → ℕ) → ((σ : ℕ) → a σ ≤ 1000) → (b : Bool) {k l : Kern} {es fs : List Event} → Good a b k es → Between k es l fs → Good a b l fs
-good_between a f b {k = k} {l = l} h d = record { up = between_fell d ∙ h.up; sound = cells_sound k l (between_cells d) h.sound; inv = between_kept nothing few (between_viewed d) h.inv; rich = λ e. between_kept a f (between_viewed d) (h.rich e) }
+good_between a f b {k = k} {l = l} h d = record { up = between_fell d ∙ h.up; sound = cells_sound k l (between_cells d) h.sound; inv = between_kept nothing few0 (between_viewed d) h.inv; rich = λ e. between_kept a f (between_viewed d) (h.rich e) }
 
 -- a server has its turn
 pub record Seated (a : ℕ → ℕ) (b : Bool) (σ : ℕ) (k : Kern) (es : List Event) : Type 0 where
@@ -59,7 +59,7 @@ pub ended : (a : ℕ → ℕ) (σ : ℕ) {b c : Bool} {k m : Kern} {es gs : List
 ended a σ {k = k} {m = m} {es = es} {gs = gs} s (inl x) =
     record { up = x.0.fell; sound = x.0.sound; inv = x.0.kept nothing s.good.inv; rich = λ e. subst (λ τ. Inv (credit τ 32 a) (viewed m) gs) s.whose (x.0.gave refl a (s.good.rich (sym x.1 ∙ e))) }
 ended a σ {c = c} {m = m} {gs = gs} s (inr x) =
-    record { up = ap (λ y. y.fell) x.3; sound = subst Sound (sym x.3) (renew_sound false x.0 x.2.sound); inv = subst₂ (λ y z. Inv nothing (viewed y) z) (sym x.3) (sym x.4) (x.2.kept nothing s.good.inv); rich = λ e. (let z : ◌≡◌ {A = ℕ} 0 1 = cc x.5 in absurd (omega arith)) }
+    record { up = ap (λ y. y.fell) x.3; sound = subst Sound (sym x.3) (renew_sound false x.0 x.2.sound); inv = subst₂ (λ y z. Inv nothing (viewed y) z) (sym x.3) (sym x.4) (x.2.kept nothing s.good.inv); rich = λ e. absurd (cc x.5) }
 
 abbrev pub one : ℕ → ℕ
 one = credit 0 32 nothing
@@ -69,9 +69,6 @@ two = credit 1 32 one
 
 abbrev pub three : ℕ → ℕ
 three = credit 2 32 two
-
-pub few0 : (σ : ℕ) → nothing σ ≤ 1000
-few0 σ = omega arith
 
 pub few1 : (σ : ℕ) → one σ ≤ 1000
 few1 σ = grind (arith, tests)

@@ -1,4 +1,4 @@
--- How asks compose. Kernels are explicit: they stand under projections.
+-- How asks compose. A kernel that stands only as it is meant (under `viewed`) is explicit; the others follow from the facts.
 -- Assumes nothing.
 use Rattle.std.proofs.Common.{◌≡◌, ℕ, ◌+◌, ◌<◌, ◌≤◌, Bool, true, false, cond, not, eqb, List, is_ok, is_err, Ok, Err, Result, sym, refl, ap, ◌∙◌, subst, subst₂, arith}
 use Rattle.heal.specs.declared.Down.{Down}
@@ -36,60 +36,60 @@ atomic_did n k j l es fs gs (Ok x) z e f h s t d = record { after = atomic_after
 atomic_did n k j l es fs gs (Err x) z e f h s t d = record { after = atomic_after n k j l es fs gs false z e f h s t d; gives = λ y u. (let b : ◌≡◌ {A = ℕ} 0 1 = cc in absurd (omega arith)) }
 
 -- more is known
-pub did_and : {A : Type 0} (n : ℕ) (k l : Kern) (es fs : List Event) (r : Result A Down) (P Q : A → Type 0) → ((x : A) → r ≡ Ok x → P x → Q x) → Did n k es r l fs P → Did n k es r l fs Q
-did_and n k l es fs r P Q h d = record { after = d.after; gives = λ x e. h x e (d.gives x e) }
+pub did_and : {A : Type 0} {n : ℕ} {k l : Kern} {es fs : List Event} {r : Result A Down} {P Q : A → Type 0} → Did n k es r l fs P → ((x : A) → r ≡ Ok x → P x → Q x) → Did n k es r l fs Q
+did_and d h = record { after = d.after; gives = λ x e. h x e (d.gives x e) }
 
-pub after_then : (n m : ℕ) (k l j : Kern) (es fs gs : List Event) (b : Bool) → After n k es true l fs → After m l fs b j gs → After (n + m) k es b j gs
-after_then n m k l j es fs gs b x y = record { seat = y.seat ∙ x.seat; fell = y.fell; spent = omega (arith, x.spent, y.spent); sound = y.sound; settled = y.settled; kept = λ a i. y.kept a (x.kept a i) }
+pub after_then : {n m : ℕ} {k l j : Kern} {es fs gs : List Event} {b : Bool} → After n k es true l fs → After m l fs b j gs → After (n + m) k es b j gs
+after_then x y = record { seat = y.seat ∙ x.seat; fell = y.fell; spent = omega (arith, x.spent, y.spent); sound = y.sound; settled = y.settled; kept = λ a i. y.kept a (x.kept a i) }
 
-pub after_none : (k : Kern) (es : List Event) (n : ℕ) → Able n k es → After 0 k es true k es
-after_none k es n a = record { seat = refl; fell = a.stands; spent = omega arith; sound = a.sound; settled = λ _. a.settled; kept = λ a i. i }
+pub after_none : {k : Kern} {es : List Event} {n : ℕ} → Able n k es → After 0 k es true k es
+after_none a = record { seat = refl; fell = a.stands; spent = omega arith; sound = a.sound; settled = λ _. a.settled; kept = λ a i. i }
 
-pub after_up : (n m : ℕ) (k l : Kern) (es fs : List Event) (b : Bool) → n ≤ m → After n k es b l fs → After m k es b l fs
-after_up n m k l es fs b h x = record { seat = x.seat; fell = x.fell; spent = omega (arith, x.spent); sound = x.sound; settled = x.settled; kept = x.kept }
+pub after_up : {n m : ℕ} {k l : Kern} {es fs : List Event} {b : Bool} → After n k es b l fs → n ≤ m → After m k es b l fs
+after_up x h = record { seat = x.seat; fell = x.fell; spent = omega (arith, x.spent); sound = x.sound; settled = x.settled; kept = x.kept }
+
+pub did_up : {A : Type 0} {n m : ℕ} {k l : Kern} {es fs : List Event} {r : Result A Down} {P : A → Type 0} → Did n k es r l fs P → n ≤ m → Did m k es r l fs P
+did_up d h = record { after = after_up d.after h; gives = d.gives }
 
 -- it may go on
-pub able : (n m : ℕ) (k l : Kern) (es fs : List Event) → Able m k es → After n k es true l fs → (t : ℕ) → t + n ≤ m → Able t l fs
-able n m k l es fs a x t h = record { some = omega (arith, a.some, x.spent); stands = x.fell; sound = x.sound; settled = x.settled refl; inv = x.kept nothing a.inv }
-
-pub able_less : (n m : ℕ) (k : Kern) (es : List Event) → Able m k es → n ≤ m → Able n k es
-able_less n m k es a h = record { some = omega (arith, a.some); stands = a.stands; sound = a.sound; settled = a.settled; inv = a.inv }
+pub able : {n m : ℕ} {k l : Kern} {es fs : List Event} → Able m k es → After n k es true l fs → (t : ℕ) → t + n ≤ m → Able t l fs
+able a x t h = record { some = omega (arith, a.some, x.spent); stands = x.fell; sound = x.sound; settled = x.settled refl; inv = x.kept nothing a.inv }
 
 -- it fell, and that is handed on
-pub did_lost : {A : Type 0} (n m : ℕ) (k l : Kern) (es fs : List Event) (r : Result A Down) (P : A → Type 0) → n ≤ m → is_err r ≡ true → After n k es false l fs → Did m k es r l fs P
-did_lost n m k l es fs (Ok x) P h e d = let b : ◌≡◌ {A = ℕ} 0 1 = cc in absurd (omega arith)
-did_lost n m k l es fs (Err x) P h e d = record { after = after_up n m k l es fs false h d; gives = λ y u. (let b : ◌≡◌ {A = ℕ} 0 1 = cc in absurd (omega arith)) }
+pub did_lost : {A : Type 0} {n m : ℕ} {k l : Kern} {es fs : List Event} {r : Result A Down} {P : A → Type 0} → is_err r ≡ true → After n k es false l fs → n ≤ m → Did m k es r l fs P
+did_lost {r = Ok x} e d h = let b : ◌≡◌ {A = ℕ} 0 1 = cc in absurd (omega arith)
+did_lost {r = Err x} e d h = record { after = after_up d h; gives = λ y u. (let b : ◌≡◌ {A = ℕ} 0 1 = cc in absurd (omega arith)) }
 
-pub did_ok : {A : Type 0} (n m : ℕ) (k l : Kern) (es fs : List Event) (x : A) (P : A → Type 0) → n ≤ m → After n k es true l fs → P x → Did m k es (Ok x) l fs P
-did_ok n m k l es fs x P h d p = record { after = after_up n m k l es fs true h d; gives = λ y u. (let e : x ≡ y = cc in subst P e p) }
+pub did_ok : {A : Type 0} {n m : ℕ} {k l : Kern} {es fs : List Event} {x : A} {P : A → Type 0} → After n k es true l fs → P x → n ≤ m → Did m k es (Ok x) l fs P
+did_ok {x = x} {P = P} d p h = record { after = after_up d h; gives = λ y u. (let e : x ≡ y = cc in subst P e p) }
 
 -- the last call's result is handed on
-pub did_then : {A : Type 0} (n m t : ℕ) (k l j : Kern) (es fs gs : List Event) (r : Result A Down) (P Q : A → Type 0) → n + m ≤ t → After n k es true l fs → Did m l fs r j gs Q → ((x : A) → r ≡ Ok x → Q x → P x) → Did t k es r j gs P
-did_then n m t k l j es fs gs r P Q h x d f = record { after = after_up (n + m) t k j es gs (is_ok r) h (after_then n m k l j es fs gs (is_ok r) x d.after); gives = λ y e. f y e (d.gives y e) }
+pub did_then : {A : Type 0} {n m t : ℕ} {k l j : Kern} {es fs gs : List Event} {r : Result A Down} {P Q : A → Type 0} → After n k es true l fs → Did m l fs r j gs Q → ((x : A) → r ≡ Ok x → Q x → P x) → n + m ≤ t → Did t k es r j gs P
+did_then x d f h = record { after = after_up (after_then x d.after) h; gives = λ y e. f y e (d.gives y e) }
 
 -- what is known after an ask that was done
-pub same_cell : (k l : Kern) (es fs : List Event) → Exact (viewed k) es l fs → (j : ℕ) → cells l j ≡ cells k j
-same_cell k l es fs e j = ap (λ κ. κ.cell κ.at j) e.is
+pub same_cell : (k : Kern) {l : Kern} {es fs : List Event} → Exact (viewed k) es l fs → (j : ℕ) → cells l j ≡ cells k j
+same_cell k e j = ap (λ κ. κ.cell κ.at j) e.is
 
-pub same_box : (k l : Kern) (es fs : List Event) → Exact (viewed k) es l fs → l.box ≡ k.box
-same_box k l es fs e = ap (λ κ. κ.box) e.is
+pub same_box : (k : Kern) {l : Kern} {es fs : List Event} → Exact (viewed k) es l fs → l.box ≡ k.box
+same_box k e = ap (λ κ. κ.box) e.is
 
-pub put_cell : (c x : ℕ) (k l : Kern) (es fs : List Event) → Exact (kept c x (viewed k)) es l fs → (j : ℕ) → cells l j ≡ cond (eqb j c) x (cells k j)
-put_cell c x k l es fs e j = ap (λ κ. κ.cell κ.at j) e.is ∙ grind (arith, tests)
+pub put_cell : (c x : ℕ) (k : Kern) {l : Kern} {es fs : List Event} → Exact (kept c x (viewed k)) es l fs → (j : ℕ) → cells l j ≡ cond (eqb j c) x (cells k j)
+put_cell c x k e j = ap (λ κ. κ.cell κ.at j) e.is ∙ grind (arith, tests)
 
-pub put_box : (c x : ℕ) (k l : Kern) (es fs : List Event) → Exact (kept c x (viewed k)) es l fs → l.box ≡ k.box
-put_box c x k l es fs e = ap (λ κ. κ.box) e.is
+pub put_box : (c x : ℕ) (k : Kern) {l : Kern} {es fs : List Event} → Exact (kept c x (viewed k)) es l fs → l.box ≡ k.box
+put_box c x k e = ap (λ κ. κ.box) e.is
 
 -- a read, and then a put
-pub read_put : (c x : ℕ) (k l m : Kern) (es fs gs : List Event) → Exact (viewed k) es l fs → Exact (kept c x (viewed l)) fs m gs → Exact (kept c x (viewed k)) es m gs
-read_put c x k l m es fs gs e f = record { is = f.is ∙ ap (λ κ. with_left m.left (kept c x κ)) e.is; same = f.same ∙ e.same }
+pub read_put : (c x : ℕ) (k : Kern) {l m : Kern} {es fs gs : List Event} → Exact (viewed k) es l fs → Exact (kept c x (viewed l)) fs m gs → Exact (kept c x (viewed k)) es m gs
+read_put c x k {m = m} e f = record { is = f.is ∙ ap (λ κ. with_left m.left (kept c x κ)) e.is; same = f.same ∙ e.same }
 
-pub read_read : (k l m : Kern) (es fs gs : List Event) → Exact (viewed k) es l fs → Exact (viewed l) fs m gs → Exact (viewed k) es m gs
-read_read k l m es fs gs e f = record { is = f.is ∙ ap (λ κ. with_left m.left κ) e.is; same = f.same ∙ e.same }
+pub read_read : (k : Kern) {l m : Kern} {es fs gs : List Event} → Exact (viewed k) es l fs → Exact (viewed l) fs m gs → Exact (viewed k) es m gs
+read_read k {m = m} e f = record { is = f.is ∙ ap (λ κ. with_left m.left κ) e.is; same = f.same ∙ e.same }
 
 -- the invariant, at another count of asks
-pub inv_exact : (a : ℕ → ℕ) (j l : Kern) (es fs : List Event) → Exact j es l fs → Inv a j es → Inv a (viewed l) fs
-inv_exact a j l es fs e i = subst₂ (λ κ gs. Inv a κ gs) (sym e.is) (sym e.same) i
+pub inv_exact : (a : ℕ → ℕ) {j l : Kern} {es fs : List Event} → Exact j es l fs → Inv a j es → Inv a (viewed l) fs
+inv_exact a e i = subst₂ (λ κ gs. Inv a κ gs) (sym e.is) (sym e.same) i
 
-pub same_cells : (k l : Kern) (es fs : List Event) → Exact (viewed k) es l fs → cells l ≡ cells k
-same_cells k l es fs e = ap (λ κ. κ.cell κ.at) e.is
+pub same_cells : (k : Kern) {l : Kern} {es fs : List Event} → Exact (viewed k) es l fs → cells l ≡ cells k
+same_cells k e = ap (λ κ. κ.cell κ.at) e.is

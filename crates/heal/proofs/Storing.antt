@@ -32,7 +32,7 @@ word_keeps p n c k es j x s w h a i = let o = head_fine a k es p n c h.rest h.he
 
 pub word_storing : (p n : ℕ) (c : Call) (j x : ℕ) (k l : Kern) (es fs : List Event) → p < 64 → Word p j → Storing p n c (k.box k.at) (cells k) → Exact (kept j x (viewed k)) es l fs → Storing p n c (l.box l.at) (cells l)
 word_storing p n c j x k l es fs s w h e =
-    let pc = put_cell j x k l es fs e in
+    let pc = put_cell j x k e in
     let p1 = pc (64 + p) in let p2 = pc 32 in let p3 = pc 36 in
     let e1 : cells l (64 + p) ≡ cells k (64 + p) = grind (arith, tests) in
     let e2 : cells l 32 ≡ cells k 32 = grind (arith, tests) in
@@ -44,7 +44,7 @@ word_storing p n c j x k l es fs s w h e =
 pub words_there : (p a b c d : ℕ) (k0 k1 k2 k3 k4 : Kern) (e0 e1 e2 e3 e4 : List Event) → p < 64 → Exact (kept (192 + p) a (viewed k0)) e0 k1 e1 → Exact (kept (256 + p) b (viewed k1)) e1 k2 e2 → Exact (kept (320 + p) c (viewed k2)) e2 k3 e3 → Exact (kept (384 + p) d (viewed k3)) e3 k4 e4 →
     call_of (cells k4 (192 + p)) (cells k4 (256 + p)) (cells k4 (320 + p)) (cells k4 (384 + p)) ≡ call_of a b c d
 words_there p a b c d k0 k1 k2 k3 k4 e0 e1 e2 e3 e4 s f1 f2 f3 f4 =
-    let g1 = put_cell _ _ _ _ _ _ f1 in let g2 = put_cell _ _ _ _ _ _ f2 in let g3 = put_cell _ _ _ _ _ _ f3 in let g4 = put_cell _ _ _ _ _ _ f4 in
+    let g1 = put_cell _ _ _ f1 in let g2 = put_cell _ _ _ f2 in let g3 = put_cell _ _ _ f3 in let g4 = put_cell _ _ _ f4 in
     let x1 = g1 (192 + p) in let x2 = g2 (192 + p) in let x3 = g3 (192 + p) in let x4 = g4 (192 + p) in
     let y2 = g2 (256 + p) in let y3 = g3 (256 + p) in let y4 = g4 (256 + p) in
     let z3 = g3 (320 + p) in let z4 = g4 (320 + p) in
@@ -60,14 +60,14 @@ last_keeps p n c k es h e a i = last_kept a k es i p n c h.rest h.head h.fresh h
 -- all five puts
 pub stored : (p n a b c d : ℕ) (k0 k1 k2 k3 k4 k5 : Kern) (e0 e1 e2 e3 e4 e5 : List Event) → p < 64 → Exact (kept (192 + p) a (viewed k0)) e0 k1 e1 → Exact (kept (256 + p) b (viewed k1)) e1 k2 e2 → Exact (kept (320 + p) c (viewed k2)) e2 k3 e3 → Exact (kept (384 + p) d (viewed k3)) e3 k4 e4 → Exact (kept (64 + p) (n + 1) (viewed k4)) e4 k5 e5 → Stored p n k0 k5
 stored p n a b c d k0 k1 k2 k3 k4 k5 e0 e1 e2 e3 e4 e5 s f1 f2 f3 f4 f5 =
-    let x1 = put_cell _ _ _ _ _ _ f1 32 in let x2 = put_cell _ _ _ _ _ _ f2 32 in let x3 = put_cell _ _ _ _ _ _ f3 32 in let x4 = put_cell _ _ _ _ _ _ f4 32 in let x5 = put_cell _ _ _ _ _ _ f5 32 in
-    let y5 = put_cell _ _ _ _ _ _ f5 (64 + p) in
-    record { there = grind (arith, tests); boxes = put_box _ _ _ _ _ _ f5 ∙ (put_box _ _ _ _ _ _ f4 ∙ (put_box _ _ _ _ _ _ f3 ∙ (put_box _ _ _ _ _ _ f2 ∙ put_box _ _ _ _ _ _ f1))); swept = grind (arith, tests) }
+    let x1 = put_cell _ _ _ f1 32 in let x2 = put_cell _ _ _ f2 32 in let x3 = put_cell _ _ _ f3 32 in let x4 = put_cell _ _ _ f4 32 in let x5 = put_cell _ _ _ f5 32 in
+    let y5 = put_cell _ _ _ f5 (64 + p) in
+    record { there = grind (arith, tests); boxes = put_box _ _ _ f5 ∙ (put_box _ _ _ f4 ∙ (put_box _ _ _ f3 ∙ (put_box _ _ _ f2 ∙ put_box _ _ _ f1))); swept = grind (arith, tests) }
 
 -- before the words: the bit
 pub storing : (p n m : ℕ) (c : Call) (k l : Kern) (es fs : List Event) → p < 64 → (ms : List Msg) → k.box k.at ≡ Asks p n c ∷ ms → last (cells k) p ≤ n → sweep (cells k) < 64 → T (has p m) → Exact (kept 36 m (viewed k)) es l fs → Storing p n c (l.box l.at) (cells l)
 storing p n m c k l es fs s ms h f z t e =
-    let pc = put_cell 36 m k l es fs e in
+    let pc = put_cell 36 m k e in
     let p1 = pc (64 + p) in let p2 = pc 32 in let p3 = pc 36 in
     let e1 : cells l (64 + p) ≡ cells k (64 + p) = grind (arith, tests) in
     let e2 : cells l 32 ≡ cells k 32 = grind (arith, tests) in

@@ -12,6 +12,7 @@ use Rattle.heal.specs.Kernel.{Event, Asked, Told, Typed, Round, Kern, Pending, N
 use Rattle.heal.specs.House.{Nobody, Living, Now, Quiet, Under, Over, State, living, begun_of, young, older, waits_in, aged, on_right, may_tell, set_now, set_desk, fresh, begin as run-begin, asks as run-asks, types as run-types, tells as run-tells, round as run-round}
 use Rattle.heal.specs.Invariant.{Has, Mail, Waiting, Who, Early, DeskIs, Inv, last, done, owed, sweep, shown_in, ahead, hops, occ, nothing}
 use Rattle.heal.proofs.FileCells.{files_fresh}
+use Rattle.heal.proofs.Moments.{even_ahead}
 use Rattle.heal.proofs.Mail.{set_same, every_all, is_call_lem, has_new, mail_empty, mail_told, mail_asks, far_top}
 
 -- small facts
@@ -132,10 +133,6 @@ asks_soon l f n p w a waits h i = grind (arith, tests)
 
 asks_how : (c : Call) (f n : ℕ) (b : Bool) (y : Now) → f ≤ n → b ≡ false → Under c 0 ≡ cond (leb f n) (cond b (Over c Done 0) (Under c 0)) y
 asks_how c f n b y h e = grind (arith, tests)
-
-even_ahead : (σ p at shown len : ℕ) → eqb len shown ≡ true → ahead σ p at shown len ≡ false
-unfolding ahead
-even_ahead σ p at shown len e = grind (arith, tests)
 
 even_none : (d : ℕ → ℕ) (screen keys : List ℕ) (pending : ℕ → Pending) (s : State) → DeskIs d screen keys pending s → ((r m : ℕ) (c : Call) → pending r ≡ Some' m c → ⊥) → eqb (length screen) (shown_in d) ≡ true
 even_none d screen keys pending s x h = by (eqb (length screen) (shown_in d)) x.places

@@ -4,9 +4,11 @@ pub mod Promise
 pub mod Rows
 pub mod Codec
 pub mod Ready
-pub mod Transaction
+pub mod Refusal
+pub mod Sweep
 pub mod Journal
 pub mod Files
+pub mod Handles
 pub mod Invariant
 pub mod Deciding
 pub mod Turn

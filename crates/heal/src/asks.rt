@@ -1,28 +1,22 @@
 // Asks of the kernel by a server that keeps what holds of all: each with what it changes of what is meant.
-ghost use Rattle.std.specs.Prelude.{◌≡◌, ℕ, ◌+◌, ◌-◌, ◌<◌, ◌≤◌};
+// What holds stands in each clause: no field of a struct round the kernel can keep it, since `Inv` holds a state and isn't a bare fact.
+// So the kernel and the program (by the number that the kernel's traits speak of) are passed on as two parameters.
+// That the number is below 64 stands in clauses too: it comes from `AtSweep`, and is handed back to the kernel as it came.
+ghost use Rattle.std.specs.Prelude.{◌≡◌, ℕ, ◌+◌, ◌-◌, ◌<◌};
 ghost use Rattle.heal.specs.Kernel.{kept, taken, first_of, key_at, cells_of};
-ghost use Rattle.heal.specs.Journal.{viewed, kept_all, Within};
-ghost use Rattle.heal.specs.Transaction.{pairs_of};
+ghost use Rattle.heal.specs.Journal.{viewed, kept_all, HasCell, Within};
 ghost use Rattle.heal.specs.Invariant.{sweep, done, owed, owner_in, shown_in};
-ghost use Rattle.heal.specs.Deciding.{Standing, Onscreen};
+ghost use Rattle.heal.specs.Deciding.{Standing, Finds, Onscreen};
 ghost use Rattle.heal.specs.Turn.{Able, Did, Exact, Keeps, cells, Told};
 
 use crate::transaction::Transaction;
 use crate::{Answer, Call, Desk, Down, Msg, journal};
 
+// what a cell means
 pub fn read<K: Desk>(k: &mut K, cell: u32) -> Result<u64, Down>
     requires able { Able 1 (K.kern k.old) (K.seen k.old) }
-    requires small { cell < 512 }
-    ensures { Did 1 (K.kern k.old) (K.seen k.old) result (K.kern k.new) (K.seen k.new) (λ (x : ℕ). (x ≡ cells (K.kern k.old) cell) × Exact (viewed (K.kern k.old)) (K.seen k.old) (K.kern k.new) (K.seen k.new)) }
-{
-    journal::get(k, cell)
-}
-
-// a cell anywhere
-pub fn read_far<K: Desk>(k: &mut K, cell: u32) -> Result<u64, Down>
-    requires able { Able 1 (K.kern k.old) (K.seen k.old) }
-    requires within { cell + 17 < cells_of (K.kern k.old).at }
-    ensures { Did 1 (K.kern k.old) (K.seen k.old) result (K.kern k.new) (K.seen k.new) (λ (x : ℕ). (x ≡ cells (K.kern k.old) cell) × Exact (viewed (K.kern k.old)) (K.seen k.old) (K.kern k.new) (K.seen k.new)) }
+    requires within { HasCell cell (K.kern k.old) }
+    ensures { Finds 1 (K.kern k.old) (K.seen k.old) result (K.kern k.new) (K.seen k.new) (λ (x : ℕ). x ≡ cells (K.kern k.old) cell) }
 {
     journal::get(k, cell)
 }
@@ -47,9 +41,9 @@ pub fn take<K: Desk>(k: &mut K) -> Result<(), Down>
 // all of a transaction in one moment
 pub fn commit<K: Desk>(k: &mut K, t: Transaction) -> Result<(), Down>
     requires able { Able 50 (K.kern k.old) (K.seen k.old) }
-    requires within { Within (cells_of (K.kern k.old).at) (pairs_of t) }
-    requires keeps { Keeps (viewed (K.kern k.old)) (K.seen k.old) (kept_all (pairs_of t) (viewed (K.kern k.old))) (K.seen k.old) }
-    ensures { Did 50 (K.kern k.old) (K.seen k.old) result (K.kern k.new) (K.seen k.new) (λ _. Exact (kept_all (pairs_of t) (viewed (K.kern k.old))) (K.seen k.old) (K.kern k.new) (K.seen k.new)) }
+    requires within { Within (cells_of (K.kern k.old).at) t }
+    requires keeps { Keeps (viewed (K.kern k.old)) (K.seen k.old) (kept_all t (viewed (K.kern k.old))) (K.seen k.old) }
+    ensures { Did 50 (K.kern k.old) (K.seen k.old) result (K.kern k.new) (K.seen k.new) (λ _. Exact (kept_all t (viewed (K.kern k.old))) (K.seen k.old) (K.kern k.new) (K.seen k.new)) }
 {
     t.commit(k)
 }
@@ -67,7 +61,7 @@ pub fn answer<K: Desk>(k: &mut K, p: u32, number: u64, a: Answer) -> Result<(), 
 
 pub fn peek<K: Desk>(k: &mut K) -> Result<Option<Msg>, Down>
     requires able { Able 1 (K.kern k.old) (K.seen k.old) }
-    ensures { Did 1 (K.kern k.old) (K.seen k.old) result (K.kern k.new) (K.seen k.new) (λ m. (m ≡ first_of ((K.kern k.old).box (K.kern k.old).at)) × Exact (viewed (K.kern k.old)) (K.seen k.old) (K.kern k.new) (K.seen k.new)) }
+    ensures { Finds 1 (K.kern k.old) (K.seen k.old) result (K.kern k.new) (K.seen k.new) (λ m. m ≡ first_of ((K.kern k.old).box (K.kern k.old).at)) }
 {
     k.peek()
 }
@@ -76,7 +70,7 @@ pub fn peek<K: Desk>(k: &mut K) -> Result<Option<Msg>, Down>
 pub fn key<K: Desk>(k: &mut K, n: u64) -> Result<Option<u64>, Down>
     requires able { Able 1 (K.kern k.old) (K.seen k.old) }
     requires two { (K.kern k.old).at ≡ 2 }
-    ensures { Did 1 (K.kern k.old) (K.seen k.old) result (K.kern k.new) (K.seen k.new) (λ o. (o ≡ key_at n (K.kern k.old).keys) × Exact (viewed (K.kern k.old)) (K.seen k.old) (K.kern k.new) (K.seen k.new)) }
+    ensures { Finds 1 (K.kern k.old) (K.seen k.old) result (K.kern k.new) (K.seen k.new) (λ o. o ≡ key_at n (K.kern k.old).keys) }
 {
     k.key(n)
 }

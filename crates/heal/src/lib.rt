@@ -10,18 +10,22 @@ ghost use Rattle.heal.specs.Rows.{Hold, rows};
 mod asks;
 pub mod codec;
 mod decision;
-mod decisions;
 mod files;
+mod handle;
 mod journal;
 mod programs;
 mod ready;
 mod screen;
+mod server;
 mod slots;
+mod sweep;
 mod transaction;
+mod users;
 
 pub use files::Files;
 pub use programs::Programs;
 pub use screen::Screen;
+pub use server::Server;
 
 // Files 0 to 63, of up to 256 words; handles 0 to 7; programs 1 to 63.
 #[derive(Clone, Copy)]
@@ -141,7 +145,7 @@ pub trait World: Desk {
 }
 
 // The main theorem: that this is proved. Whatever programs ask, whenever servers fall, and however often, all that is
-// seen can be explained by one machine that never fell.
+// seen can be explained by one machine that never fell. (The function's text is fixed, so it counts by hand.)
 pub fn days<W: Desk + World>(w: &mut W, many: u64)
     requires starts { AtStart (W.kern w.old) }
     requires unseen { W.seen w.old ≡ [] }

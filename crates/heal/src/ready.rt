@@ -1,6 +1,6 @@
 // A set of programs, 0 to 63, in one word.
 ghost use Rattle.std.specs.Prelude.{◌≡◌, ℕ, ◌<◌, not, ◌&&◌, ◌||◌, ◌==◌};
-ghost use Rattle.heal.specs.Ready.{has, FirstFrom};
+ghost use Rattle.heal.specs.Ready.{has, First};
 
 #[derive(Clone, Copy)]
 pub struct ReadySet {
@@ -28,27 +28,19 @@ impl ReadySet {
         requires { p < 64 }
         ensures { (q : ℕ) → has q result.bits ≡ has q self.bits && not (p == q) }
     {
-        if self.contains(p) {
-            ReadySet {
-                bits: self.bits ^ (1 << p),
-            }
-        } else {
-            self
+        ReadySet {
+            bits: self.bits & !(1 << p),
         }
     }
 
-    // the first from c on that is in it, or 0
-    pub fn first_from(self, c: u32) -> u32
-        requires { 0 < c }
-        ensures { FirstFrom c self.bits result }
+    // the first from c on that is in it
+    pub fn first_from(self, c: u32) -> Option<u32>
+        ensures { First c self.bits result }
     {
-        let mut p = c;
-        while p < 64 {
-            if self.contains(p) {
-                return p;
-            }
-            p += 1;
+        let rest = self.bits.checked_shr(c)?;
+        if rest == 0 {
+            return None;
         }
-        0
+        Some(c + rest.trailing_zeros())
     }
 }

@@ -1,70 +1,105 @@
 -- What a write to an array does to the kernel.
-use Rattle.std.proofs.Common.{◌≡◌, ℕ, ◌+◌, ◌-◌, ◌*◌, ◌%◌, ◌<◌, ◌≤◌, Bool, true, false, cond, ◌&&◌, eqb, List, [], ◌∷◌, ◌++◌, length, get_or, take, set, sym, ap, ◌∙◌, subst}
-use Rattle.std.proofs.lemmas.List.{take_more_set, length-take-le}
+use Rattle.std.proofs.Common.{◌≡◌, ℕ, ◌+◌, ◌<◌, ◌≤◌, true, false, cond, ◌&&◌, eqb, List, [], ◌∷◌, ◌++◌, length, get_or, set, None, sym, ap, ◌∙◌, subst}
+use Rattle.std.proofs.lemmas.List.{length-take-le}
 use Rattle.std.proofs.lemmas.Bool.{cond-true, cond-false, eq-eqb, ne_eqb, lt-ltb, le-ltb}
 use Rattle.heal.specs.declared.Msg.{Msg}
-use Rattle.heal.specs.Kernel.{Kern, with_cell, with_runs, with_screen, with_box, kept, begun, stopped, answered, showed, taken, has_room, is_call, cells_of, None', tail}
+use Rattle.heal.specs.Kernel.{Kern, with_cell, with_runs, with_screen, with_box, kept, begun, stopped, answered, showed, taken, has_room, is_call, cells_of, tail}
 use Rattle.heal.specs.Kernel as kernel
-use Rattle.memory.specs.declared.Waiting.{Waiting}
-use Rattle.memory.specs.declared.Waiting.TheVariants.{Nothing}
-use Rattle.memory.specs.Memory.{base_of, box_of, cell_of, runs_of, waits_of}
-use Rattle.memory.proofs.Arrays.{cell_put, runs_set, waits_set, box_take, box_bare, box_put, box_length, set_again}
+use Rattle.memory.specs.declared.program.Program.{Program}
+use Rattle.memory.specs.declared.machine.Machine.{Machine}
+use Rattle.memory.specs.Memory.{kern_of, words_of, base_of, box_of, cell_of, program_at, runs_of, waits_of, number_of}
+use Rattle.memory.specs.Programs.{pending_of}
+use Rattle.memory.proofs.Arrays.{cell_put, runs_set, waits_set, runs_kept, waits_kept, number_kept, box_read, box_set, set_again}
 
 pub kept_is : (k : Kern) (xs : List ℕ) (c x b : ℕ) → k.cell ≡ cell_of xs → k.at < 3 → c < cells_of k.at → b ≡ base_of k.at → b + c < length xs → with_cell (cell_of (set xs (b + c) x)) k ≡ kept c x k
 kept_is k xs c x b w la lc at_b lt =
     ap (λ n. with_cell (cell_of (set xs (n + c) x)) k) at_b
     ∙ ap (λ f. with_cell f k) (cell_put xs k.at c x la lc (subst (λ n. n + c < length xs) at_b lt) ∙ ap (λ f s j. cond (eqb s k.at && eqb j c) x (f s j)) (sym w))
 
-pub begun_is : (k : Kern) (rs : List Bool) (i : ℕ) → k.runs ≡ runs_of rs → i < length rs → with_runs (runs_of (set rs i true)) k.pending k ≡ begun i k
-begun_is k rs i w lr = ap (λ f. with_runs f k.pending k) (sym (ap (λ f j. cond (eqb j i) true (f j)) w ∙ sym (runs_set rs i true lr)))
+-- the kernel with these programs
+abbrev pub with_programs : List Program → Kern → Kern
+with_programs ps k =
+    record { at = k.at; box = k.box; cell = k.cell; runs = runs_of ps; pending = waits_of ps; number = number_of ps; screen = k.screen; keys = k.keys; left = k.left; fell = k.fell }
+
+pub begun_is : (m : Machine) (i : ℕ) (q : Program) → i < length m.programs → q.runs ≡ true → q.pending ≡ (program_at m.programs i).pending → q.number ≡ (program_at m.programs i).number → with_programs (set m.programs i q) (kern_of m) ≡ begun i (kern_of m)
+begun_is m i q l r w n =
+    λ d.
+    record {
+      at = m.at;
+      box = (kern_of m).box;
+      cell = (kern_of m).cell;
+      runs = (runs_set m.programs i q l ∙ ap (λ b j. cond (eqb j i) b (runs_of m.programs j)) r) d;
+      pending = waits_kept m.programs i q l w d;
+      number = number_kept m.programs i q l n d;
+      screen = (kern_of m).screen;
+      keys = (kern_of m).keys;
+      left = m.left;
+      fell = m.fell;
+    }
 
 pub begun_again : (k : Kern) (i : ℕ) → k.runs i ≡ true → k ≡ begun i k
 begun_again k i e = ap (λ f. with_runs f k.pending k) (set_again k.runs i true e)
 
-pub stopped_is : (k : Kern) (rs : List Bool) (ws : List Waiting) (i : ℕ) → k.runs ≡ runs_of rs → k.pending ≡ waits_of ws → i < length rs → i < length ws →
-    with_runs (runs_of (set rs i false)) (waits_of (set ws i Nothing)) k ≡ stopped i k
-stopped_is k rs ws i w v lr lw =
-    sym (λ d. with_runs ((ap (λ f j. cond (eqb j i) false (f j)) w ∙ sym (runs_set rs i false lr)) d) ((ap (λ f j. cond (eqb j i) None' (f j)) v ∙ sym (waits_set ws i Nothing lw)) d) k)
+pub stopped_is : (m : Machine) (i : ℕ) (q : Program) → i < length m.programs → q.runs ≡ false → q.pending ≡ None → q.number ≡ (program_at m.programs i).number → with_programs (set m.programs i q) (kern_of m) ≡ stopped i (kern_of m)
+stopped_is m i q l r w n =
+    λ d.
+    record {
+      at = m.at;
+      box = (kern_of m).box;
+      cell = (kern_of m).cell;
+      runs = (runs_set m.programs i q l ∙ ap (λ b j. cond (eqb j i) b (runs_of m.programs j)) r) d;
+      pending = (waits_set m.programs i q l ∙ ap (λ v j. cond (eqb j i) (pending_of v) (waits_of m.programs j)) w) d;
+      number = number_kept m.programs i q l n d;
+      screen = (kern_of m).screen;
+      keys = (kern_of m).keys;
+      left = m.left;
+      fell = m.fell;
+    }
 
-pub stopped_again : (k : Kern) (ws : List Waiting) (i : ℕ) → k.runs i ≡ false → k.pending ≡ waits_of ws → i < length ws → with_runs k.runs (waits_of (set ws i Nothing)) k ≡ stopped i k
-stopped_again k ws i e v lw =
-    λ d. with_runs (set_again k.runs i false e d) (sym (ap (λ f j. cond (eqb j i) None' (f j)) v ∙ sym (waits_set ws i Nothing lw)) d) k
-
-pub answered_is : (k : Kern) (ws : List Waiting) (i number : ℕ) → k.pending ≡ waits_of ws → i < length ws → is_call number (k.pending i) ≡ true → with_runs k.runs (waits_of (set ws i Nothing)) k ≡ answered i number k
-answered_is k ws i number v lw is =
-    sym (cond-true _ _ _ is ∙ ap (λ f. with_runs k.runs f k) (ap (λ f j. cond (eqb j i) None' (f j)) v ∙ sym (waits_set ws i Nothing lw)))
+pub answered_is : (m : Machine) (i number : ℕ) (q : Program) → i < length m.programs → is_call number ((kern_of m).pending i) ≡ true → q.runs ≡ (program_at m.programs i).runs → q.pending ≡ None → q.number ≡ (program_at m.programs i).number → with_programs (set m.programs i q) (kern_of m) ≡ answered i number (kern_of m)
+answered_is m i number q l is r w n =
+    (λ d.
+    record {
+      at = m.at;
+      box = (kern_of m).box;
+      cell = (kern_of m).cell;
+      runs = runs_kept m.programs i q l r d;
+      pending = (waits_set m.programs i q l ∙ ap (λ v j. cond (eqb j i) (pending_of v) (waits_of m.programs j)) w) d;
+      number = number_kept m.programs i q l n d;
+      screen = (kern_of m).screen;
+      keys = (kern_of m).keys;
+      left = m.left;
+      fell = m.fell;
+    })
+    ∙ sym (cond-true _ _ _ is)
 
 pub answered_none : (k : Kern) (i number : ℕ) → is_call number (k.pending i) ≡ false → k ≡ answered i number k
 answered_none k i number is = sym (cond-false _ _ _ is)
 
-pub next_place : (k : Kern) (s : ℕ) (xs : List ℕ) (place : ℕ) → k.screen ≡ take s xs → s ≤ length xs → place ≡ s → eqb place (length k.screen) ≡ true
-next_place k s xs place v ls t = eq-eqb place (length k.screen) (t ∙ sym (ap length v ∙ length-take-le s xs ls))
+pub next_place : (m : Machine) (place : ℕ) → place ≡ m.screen.len → eqb place (length (kern_of m).screen) ≡ true
+next_place m place e = eq-eqb place (length (words_of m.screen)) (e ∙ sym (length-take-le m.screen.len m.screen.words.now m.screen.within))
 
-pub no_place : (k : Kern) (s : ℕ) (xs : List ℕ) (place : ℕ) → k.screen ≡ take s xs → s ≤ length xs → (place ≡ s → ⊥) → eqb place (length k.screen) ≡ false
-no_place k s xs place v ls t = ne_eqb place (length k.screen) (λ d. t (d ∙ (ap length v ∙ length-take-le s xs ls)))
+pub no_place : (m : Machine) (place : ℕ) → (place ≡ m.screen.len → ⊥) → eqb place (length (kern_of m).screen) ≡ false
+no_place m place ne = ne_eqb place (length (words_of m.screen)) (λ e. ne (e ∙ length-take-le m.screen.len m.screen.words.now m.screen.within))
 
-pub showed_is : (k : Kern) (s : ℕ) (xs : List ℕ) (place x : ℕ) → k.screen ≡ take s xs → s < length xs → eqb place (length k.screen) ≡ true → with_screen (take (s + 1) (set xs s x)) k.keys k ≡ showed place x k
-showed_is k s xs place x v ls is = sym (cond-true _ _ _ is ∙ ap (λ f. with_screen f k.keys k) (ap (λ f. f ++ (x ∷ [])) v ∙ sym (take_more_set xs s x ls)))
+pub showed_is : (k : Kern) (place x : ℕ) (screen : List ℕ) → eqb place (length k.screen) ≡ true → screen ≡ k.screen ++ (x ∷ []) → with_screen screen k.keys k ≡ showed place x k
+showed_is k place x screen is e = ap (λ s. with_screen s k.keys k) e ∙ sym (cond-true _ _ _ is)
 
 pub showed_none : (k : Kern) (place x : ℕ) → eqb place (length k.screen) ≡ false → k ≡ showed place x k
 showed_none k place x is = sym (cond-false _ _ _ is)
 
-pub taken_is : (k : Kern) (ms : List Msg) (first many : List ℕ) → k.box ≡ box_of ms first many → k.at < length first → k.at < length many → 0 < get_or many k.at 0 →
-    with_box (box_of ms (set first k.at ((get_or first k.at 0 + 1) % 512)) (set many k.at (get_or many k.at 0 - 1))) k ≡ taken k
-taken_is k ms first many v lf lm h =
-    ap (λ f. with_box f k) (box_take ms first many k.at lf lm h ∙ ap {B = ℕ → List Msg} (λ f j. cond (eqb j k.at) (tail (f k.at)) (f j)) (sym v))
+-- a message is put into a box, or the first is taken
+pub put_is : (m : Machine) (s : ℕ) (x : Msg) (old new : List Msg) → s < length m.mailboxes → new ≡ get_or m.mailboxes s old ++ (x ∷ []) →
+    with_box (box_of (set m.mailboxes s new)) (kern_of m) ≡ with_box (kernel.set s ((kern_of m).box s ++ (x ∷ [])) (kern_of m).box) (kern_of m)
+put_is m s x old new l e =
+    ap (λ f. with_box f (kern_of m)) (box_set m.mailboxes s new l) ∙ ap (λ box. with_box (kernel.set s box (kern_of m).box) (kern_of m)) (e ∙ ap (λ (box : List Msg). box ++ (x ∷ [])) (box_read m.mailboxes s old l))
 
-pub taken_none : (k : Kern) (ms : List Msg) (first many : List ℕ) → k.box ≡ box_of ms first many → get_or many k.at 0 ≡ 0 → k ≡ taken k
-taken_none k ms first many v h =
-    ap (λ f. with_box f k) (v ∙ (box_bare ms first many k.at h ∙ ap {B = ℕ → List Msg} (λ f j. cond (eqb j k.at) (tail (f k.at)) (f j)) (sym v)))
+pub taken_is : (m : Machine) (old new : List Msg) → m.at < length m.mailboxes → new ≡ tail (get_or m.mailboxes m.at old) → with_box (box_of (set m.mailboxes m.at new)) (kern_of m) ≡ taken (kern_of m)
+taken_is m old new l e =
+    ap (λ f. with_box f (kern_of m)) (box_set m.mailboxes m.at new l) ∙ ap (λ box. with_box (kernel.set m.at box (kern_of m).box) (kern_of m)) (e ∙ ap tail (box_read m.mailboxes m.at old l))
 
-pub put_is : (k : Kern) (ms : List Msg) (first many : List ℕ) (to : ℕ) (x : Msg) → k.box ≡ box_of ms first many → to < length many → get_or many to 0 < 512 → to * 512 + (get_or first to 0 + get_or many to 0) % 512 < length ms →
-    with_box (box_of (set ms (to * 512 + (get_or first to 0 + get_or many to 0) % 512) x) first (set many to (get_or many to 0 + 1))) k ≡ with_box (kernel.set to (k.box to ++ (x ∷ [])) k.box) k
-put_is k ms first many to x v lm h lt =
-    ap (λ f. with_box f k) (box_put ms first many to x lm h lt ∙ ap {B = ℕ → List Msg} (λ f j. cond (eqb j to) (f to ++ (x ∷ [])) (f j)) (sym v))
+pub room_is : (k : Kern) (to : ℕ) → length (k.box to) < 256 → has_room to k ≡ true
+room_is k to h = lt-ltb (length (k.box to)) 256 h
 
-pub room_is : (k : Kern) (ms : List Msg) (first many : List ℕ) (to : ℕ) → k.box ≡ box_of ms first many → get_or many to 0 < 256 → has_room to k ≡ true
-room_is k ms first many to v h = lt-ltb (length (k.box to)) 256 (subst (λ n. n < 256) (sym (ap (λ f. length (f to)) v ∙ box_length ms first many to)) h)
-
-pub room_not : (k : Kern) (ms : List Msg) (first many : List ℕ) (to : ℕ) → k.box ≡ box_of ms first many → 256 ≤ get_or many to 0 → has_room to k ≡ false
-room_not k ms first many to v h = le-ltb (length (k.box to)) 256 (subst (λ n. 256 ≤ n) (sym (ap (λ f. length (f to)) v ∙ box_length ms first many to)) h)
+pub room_not : (k : Kern) (to : ℕ) → 256 ≤ length (k.box to) → has_room to k ≡ false
+room_not k to h = le-ltb (length (k.box to)) 256 h

@@ -1,6 +1,6 @@
 mod Begins
 mod Words
-mod Falling
+mod Mailboxes
 mod Arrays
 mod Kernels
 mod Fates

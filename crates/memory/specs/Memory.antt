@@ -1,19 +1,16 @@
 -- What a machine means: the kernel that its arrays hold, and the events that its notes tell.
 -- Assumes nothing.
-use Rattle.std.specs.Prelude.{ℕ, ◌+◌, ◌*◌, ◌%◌, Bool, false, cond, ◌&&◌, List, map, take, ◌==◌, nat_lt, slice_index, slice_index_or}
-use Rattle.std.specs.List.{range_with_len}
+use Rattle.std.specs.Prelude.{ℕ, ◌+◌, Bool, false, cond, ◌&&◌, List, [], take, None, ◌==◌, nat_lt, slice_index, slice_index_or}
 use Rattle.heal.specs.declared.Msg.{Msg}
-use Rattle.heal.specs.declared.Msg.TheVariants.{Asks}
-use Rattle.heal.specs.declared.Call.TheVariants.{Spawn}
-use Rattle.heal.specs.Kernel.{Kern, cells_of, Event, Pending, None', Some'}
-use Rattle.memory.specs.declared.Waiting.{Waiting}
-use Rattle.memory.specs.declared.Waiting.TheVariants.{Nothing, For}
+use Rattle.heal.specs.Kernel.{Kern, cells_of, Event, Pending}
+use Rattle.memory.specs.declared.lent.LentWords.{LentWords}
+use Rattle.memory.specs.declared.program.Program.{Program}
 use Rattle.memory.specs.declared.machine.Machine.{Machine}
 use Rattle.memory.specs.Notes.{logged}
+use Rattle.memory.specs.Programs.{pending_of}
 
-abbrev pub wait_of : Waiting → Pending
-wait_of Nothing = None'
-wait_of (For n c) = Some' n c
+abbrev pub words_of : LentWords → List ℕ
+words_of w = take w.len w.words.now
 
 -- 4,096 cells of server 0, 65,536 of server 1, 4,096 of server 2
 abbrev pub base_of : ℕ → ℕ
@@ -25,33 +22,36 @@ inside s c = nat_lt s 3 && nat_lt c (cells_of s)
 unfoldable pub cell_of : List ℕ → ℕ → ℕ → ℕ
 cell_of xs s c = cond (inside s c) (slice_index xs (base_of s + c)) 0
 
--- a ring of 512 for each server
-unfoldable pub mail_at : List Msg → ℕ → ℕ → Msg
-mail_at ms s i = slice_index_or ms (s * 512 + i % 512) (Asks 0 0 (Spawn 0))
+unfoldable pub box_of : List (List Msg) → ℕ → List Msg
+box_of boxes s = slice_index_or boxes s []
 
-unfoldable pub box_of : List Msg → List ℕ → List ℕ → ℕ → List Msg
-box_of ms first many s = map (mail_at ms s) (range_with_len (slice_index first s) (slice_index many s))
+-- a program that isn't there
+abbrev pub no_program : Program
+no_program = record { runs = false; pending = None; number = 0 }
 
-unfoldable pub runs_of : List Bool → ℕ → Bool
-runs_of rs p = slice_index_or rs p false
+abbrev pub program_at : List Program → ℕ → Program
+program_at ps p = slice_index_or ps p no_program
 
-unfoldable pub waits_of : List Waiting → ℕ → Pending
-waits_of ws p = wait_of (slice_index_or ws p Nothing)
+unfoldable pub runs_of : List Program → ℕ → Bool
+runs_of ps p = (program_at ps p).runs
 
-unfoldable pub number_of : List ℕ → ℕ → ℕ
-number_of ns p = slice_index ns p
+unfoldable pub waits_of : List Program → ℕ → Pending
+waits_of ps p = pending_of (program_at ps p).pending
+
+unfoldable pub number_of : List Program → ℕ → ℕ
+number_of ps p = (program_at ps p).number
 
 abbrev pub kern_of : Machine → Kern
 kern_of m =
     record {
       at = m.at;
-      box = box_of m.mail.now m.first m.many;
+      box = box_of m.mailboxes;
       cell = cell_of m.cells.now;
-      runs = runs_of m.runs;
-      pending = waits_of m.waits;
-      number = number_of m.numbers;
-      screen = take m.shown m.screen.now;
-      keys = take m.typed m.keys.now;
+      runs = runs_of m.programs;
+      pending = waits_of m.programs;
+      number = number_of m.programs;
+      screen = words_of m.screen;
+      keys = words_of m.keys;
       left = m.left;
       fell = m.fell;
     }

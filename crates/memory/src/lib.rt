@@ -2,40 +2,28 @@
 #![tactic(auto)]
 
 mod asks;
+mod lent;
 mod lines;
 mod machine;
+mod mailbox;
 mod notes;
 mod plan;
+mod program;
 mod start;
 mod steps;
 mod turns;
 
 use heal::{Answer, Call};
-pub use machine::{Machine, Plan};
-pub use start::clear;
+pub use lent::LentWords;
+pub use machine::Machine;
+pub use mailbox::Mailbox;
+pub use plan::{Chance, Fall, Plan, When};
+pub use program::{PendingCall, Program};
+pub use start::{Store, clear};
 
-// What becomes of one thing that a server asks.
-#[derive(Clone, Copy)]
-pub enum Fate {
-    Stands,
-    FallsBefore,
-    FallsAfter,
-}
-
-// A server falls over its `ask`th thing.
-#[derive(Clone, Copy)]
-pub struct Fall {
-    pub server: u32,
-    pub ask: u64,
-    pub after: bool,
-}
-
-// A program's call that hasn't been told, with its number.
-#[derive(Clone, Copy)]
-pub enum Waiting {
-    Nothing,
-    For(u64, Call),
-}
+// There's no room for it. (Each crate's error is its own: this one speaks of notes, falls and mailboxes, crate `script`'s of a page.)
+#[derive(Clone, Copy, PartialEq, Eq)]
+pub struct Full;
 
 // What is noted. `Rounds(n)` is n rounds in a row; from `Busy` on nothing has happened that the house would see.
 #[derive(Clone, Copy)]
@@ -54,7 +42,8 @@ pub enum Note {
 }
 
 // How far the script is. `Anew`: it asks for a new machine; `Full`: there's no room for what comes next.
-#[derive(Clone, Copy)]
+// Four states of one script, and none of them is nothing.
+#[derive(Clone, Copy, PartialEq, Eq)]
 pub enum State {
     Going,
     Ended,

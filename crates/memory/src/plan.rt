@@ -1,42 +1,68 @@
-// Where a server falls.
-ghost use Rattle.std.specs.Prelude.{◌≡◌, ◌+◌, ◌/◌, ◌%◌, ◌^◌, ◌<◌, true, false, take, nat_lt};
-ghost use Rattle.memory.specs.Plan.{stirred, by_chance, place_of, fate_of, planned_fate, Nobody, PlanAsked, PlanAdded, PlanChance, PlanSame};
+// Where servers fall: over the things that are planned, and over others by chance.
+ghost use Rattle.std.specs.Prelude.{◌≡◌, ◌+◌, ◌/◌, ◌^◌, ◌<◌, length, is_ok, OnOk, OnErr, nat_lt, position};
+ghost use Rattle.memory.specs.Plan.{stirred, by_chance, is_for, fate_of, Nobody, PlanAsked, PlanAdded, PlanChance};
 
-use crate::{Fall, Fate, Plan};
+use crate::Full;
+use arrayvec::ArrayVec;
 
-// The generator's next number.
-fn stir(seed: u64) -> u64
-    ensures { result ≡ stirred seed }
-{
-    seed.wrapping_mul(6364136223846793005)
-        .wrapping_add(1442695040888963407)
+// Whether a server falls before what it asks is done, or after.
+#[derive(Clone, Copy, Default, PartialEq, Eq)]
+pub enum When {
+    #[default]
+    Before,
+    After,
 }
 
-// Once in `rate` it is fallen over, by turns before and after.
-fn chance(d: u64, rate: u64) -> Fate
-    ensures { result ≡ by_chance d rate }
-{
-    if rate == 0 {
-        return Fate::Stands;
+// A server falls over its `ask`th thing.
+#[derive(Clone, Copy, Default)]
+pub struct Fall {
+    pub server: u32,
+    pub ask: u64,
+    pub when: When,
+}
+
+// A generator of numbers: over one thing in `rate` a server falls. A script says 0 for never, which is one
+// test in `draw`; an `Option` would be made of the 0 first, and tested there all the same.
+#[derive(Clone, Copy, Default)]
+pub struct Chance {
+    pub seed: u64,
+    pub rate: u64,
+}
+
+impl Chance {
+    // The generator goes on to its next number.
+    fn stir(&mut self)
+        ensures seed { self.new.seed ≡ stirred self.old.seed }
+        ensures rate { self.new.rate ≡ self.old.rate }
+    {
+        self.seed = self
+            .seed
+            .wrapping_mul(6364136223846793005)
+            .wrapping_add(1442695040888963407);
     }
-    if d % rate != 0 {
-        return Fate::Stands;
-    }
-    if d / rate % 2 == 0 {
-        Fate::FallsBefore
-    } else {
-        Fate::FallsAfter
+
+    // Whether this number lets a server fall, by turns before and after.
+    fn draw(&self) -> Option<When>
+        ensures { result ≡ by_chance (self.now.seed / 2 ^ 33) self.now.rate }
+    {
+        let number = self.seed >> 33;
+        if self.rate == 0 || number % self.rate != 0 {
+            return None;
+        }
+        if number / self.rate % 2 == 0 {
+            Some(When::Before)
+        } else {
+            Some(When::After)
+        }
     }
 }
 
-fn fate_of(f: Fall) -> Fate
-    ensures { result ≡ planned_fate f }
-{
-    if f.after {
-        Fate::FallsAfter
-    } else {
-        Fate::FallsBefore
-    }
+#[derive(Drop)]
+pub struct Plan {
+    // how many things each server has asked
+    pub asked: [u64; 3],
+    pub falls: ArrayVec<Fall, 64>,
+    pub chance: Chance,
 }
 
 impl Plan {
@@ -46,73 +72,52 @@ impl Plan {
     {
         Plan {
             asked: [0; 3],
-            falls: [Fall {
-                server: 0,
-                ask: 0,
-                after: false,
-            }; 64],
-            many: 0,
-            seed: 0,
-            rate: 0,
+            falls: ArrayVec::new(),
+            chance: Chance::default(),
         }
     }
 
-    // The place of the first fall that is for this server's ask; past the list if there's none.
-    fn place(&self, server: u32, ask: u64) -> usize
-        ensures { result ≡ place_of server ask (take self.now.many self.now.falls) }
+    // The place in the list of the first fall that is for this server's ask.
+    fn place(&self, server: u32, ask: u64) -> Option<usize>
+        ensures { result ≡ position (is_for server ask) self.now.falls.items }
     {
-        let mut i = 0;
-        while i < self.many {
-            let f = self.falls[i];
-            if f.server == server && f.ask == ask {
-                return i;
-            }
-            i += 1;
-        }
-        i
+        self.falls
+            .iter()
+            .position(|fall| fall.server == server && fall.ask == ask)
     }
 
-    // Server `at` asks one thing more: what becomes of it. What was planned for it is then taken out of the list.
-    pub fn fate(&mut self, at: u32) -> Fate
+    // Server `at` asks one thing more: when it falls over it, if it does. What was planned for it is then taken out of the list.
+    pub fn fate(&mut self, at: u32) -> Option<When>
         requires { at < 3 }
         ensures fate { result ≡ fate_of self.old at }
         ensures plan { PlanAsked self.old at self.new }
     {
-        let s = at as usize;
-        let ask = self.asked[s].wrapping_add(1);
-        self.asked[s] = ask;
-        self.seed = stir(self.seed);
-        let i = self.place(at, ask);
-        if i >= self.many {
-            return chance(self.seed >> 33, self.rate);
+        let ask = self.asked[at as usize].wrapping_add(1);
+        self.asked[at as usize] = ask;
+        self.chance.stir();
+        match self.place(at, ask) {
+            Some(place) => Some(self.falls.swap_remove(place).when),
+            None => self.chance.draw(),
         }
-        let fate = fate_of(self.falls[i]);
-        self.many -= 1;
-        self.falls[i] = self.falls[self.many];
-        fate
     }
 
-    // The server falls over the `nth` thing that it asks from here on, before or after it's done; there's room for 64 such falls.
-    pub fn plan_fall(&mut self, server: u32, nth: u64, after: bool) -> bool
+    // The server falls over the `nth` thing that it asks from here on; there's room for 64 such falls.
+    pub fn plan_fall(&mut self, server: u32, nth: u64, when: When) -> Result<(), Full>
         requires { server < 3 }
-        ensures room { result ≡ nat_lt self.old.many 64 }
-        ensures added { result ≡ true → PlanAdded self.old server nth after self.new }
-        ensures full { result ≡ false → PlanSame self.old self.new }
+        ensures room { is_ok result ≡ nat_lt (length self.old.falls.items) 64 }
+        ensures added { OnOk result (PlanAdded self.old server nth when self.new) }
+        ensures full { OnErr result (self.new ≡ self.old) }
     {
-        if self.many >= 64 {
-            return false;
-        }
         let ask = self.asked[server as usize].wrapping_add(nth);
-        self.falls[self.many] = Fall { server, ask, after };
-        self.many += 1;
-        true
+        self.falls
+            .try_push(Fall { server, ask, when })
+            .map_err(|_| Full)
     }
 
     // From here on chance goes by this seed and rate.
     pub fn plan_chance(&mut self, seed: u64, rate: u64)
         ensures { PlanChance self.old seed rate self.new }
     {
-        self.seed = seed;
-        self.rate = rate;
+        self.chance = Chance { seed, rate };
     }
 }

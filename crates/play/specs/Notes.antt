@@ -1,5 +1,6 @@
 -- What is printed of notes. Assumes nothing.
-use Rattle.std.specs.Prelude.{◌≡◌, ℕ, zero, suc, ◌+◌, ◌<◌, Bool, true, false, List, [], ◌∷◌, ◌++◌, length, Some, None, Option}
+use Rattle.std.specs.Prelude.{◌≡◌, ℕ, zero, suc, ◌+◌, ◌<◌, List, [], ◌∷◌, ◌++◌, length, Some, None, Option, Result, MatchResult}
+use Rattle.script.specs.declared.page.Full.{Full}
 use Rattle.script.specs.declared.Report.{Report}
 use Rattle.script.specs.declared.Report.TheVariants as report
 use Rattle.script.specs.Text.{report_text}
@@ -35,6 +36,6 @@ notes_text zero ws = []
 notes_text (suc n) ws = notes_text n ws ++ note_text (note_at ws n)
 
 -- the lines of n notes come after what was there; or those of the first k, and there's no room for the next
-pub record PrintedNotes (room : ℕ) (old ws : List ℕ) (n : ℕ) (new : List ℕ) (done : Bool) : Type 0 where
-  pub yes : done ≡ true → new ≡ old ++ notes_text n ws
-  pub no : done ≡ false → (k : ℕ) × ((k < n) × (new ≡ old ++ notes_text k ws) × (room < length new + length (note_text (note_at ws k))))
+abbrev pub PrintedNotes : (room : ℕ) (old ws : List ℕ) (n : ℕ) (new : List ℕ) → Result (Unit {0}) Full → Type 0
+PrintedNotes room old ws n new done =
+    MatchResult done (λ _. new ≡ old ++ notes_text n ws) (λ _. (k : ℕ) × ((k < n) × (new ≡ old ++ notes_text k ws) × (room < length new + length (note_text (note_at ws k)))))

@@ -1,21 +1,25 @@
 // A script is played by the house's own days, on memory that is lent, and what happens is printed.
 #![tactic(auto)]
 
-ghost use Rattle.std.specs.Prelude.{◌≡◌, ◌<◌, ◌≤◌, true, false, length};
+ghost use Rattle.std.specs.Prelude.{◌≡◌, ◌<◌, ◌≤◌, true, false, length, IfSome};
 ghost use Rattle.script.specs.Pages.{size};
 
 mod printing;
 mod section;
 
-use heal::Msg;
-use script::Page;
-use section::{End, play_section};
+use memory::{Store, clear};
+use script::{Lines, Page};
+use section::{Short, play_section};
+use std::ops::ControlFlow;
 
-// A machine's cells; and the fewest things that there must be room to note.
+// A machine's cells; and the fewest things that there must be room to note, each in eight words.
 const CELLS: usize = 73728;
 
 const FEWEST: usize = 8192;
 
+const LEAST: usize = CELLS + 8 * FEWEST;
+
+// Not an enum: C and Rust read its fields.
 #[repr(C)]
 #[derive(Clone, Copy)]
 pub struct Played {
@@ -27,48 +31,42 @@ pub struct Played {
     pub whole: bool,
 }
 
-#[derive(Clone, Copy)]
-struct Reached {
-    line: u64,
-    whole: bool,
-}
-
-// Whether the script was read on, as it always is: a section that another follows has read the line `new`. (The days promise nothing of lines,
-// so it's asked for here.)
-fn is_further(from: usize, at: usize, number: u64, total: usize) -> bool
-    ensures { result ≡ true → (from < at) × (at ≤ total) × (number ≤ at) }
+// Where the next section begins, if the script was read on, as it always is. (The days promise nothing of lines, so it's asked for here.)
+fn next_lines<'a>(lines: Lines<'a>, read: Lines) -> Option<Lines<'a>>
+    ensures { IfSome result (λ next. (next.text.now ≡ lines.entry.text.now) × (lines.entry.at < next.at)) }
 {
-    from < at && at <= total && number <= at as u64
+    if lines.at < read.at && read.at <= lines.text.len() {
+        return Some(Lines {
+            text: lines.text,
+            at: read.at,
+            number: read.number,
+        });
+    }
+    None
 }
 
-// One section after the other, as far as there's room.
-fn play_sections(
-    script: &[u8],
-    cells: &mut [u64],
-    mail: &mut [Msg],
-    screen: &mut [u64],
-    keys: &mut [u64],
-    notes: &mut [u64],
-    page: &mut Page,
-) -> Reached
-    requires cells { 73728 ≤ length cells.old }
-    requires mail { 1536 ≤ length mail.old }
+// One section after the other, as far as there's room; handed back is how many lines the script had.
+fn play_sections(script: &[u8], memory: &mut [u64], page: &mut Page) -> Result<u64, Short>
+    requires { 73728 ≤ length memory.old }
     ensures { size page.new ≡ size page.old }
 {
-    let mut at = 0usize;
-    let mut number = 0u64;
+    let room = (memory.len() - CELLS) / 8;
+    let mut lines = Lines::new(script);
     loop {
-        let section = play_section(script, at, number, cells, mail, screen, keys, notes, page);
-        let line = section.number;
-        match section.end {
-            End::Whole => return Reached { line, whole: true },
-            End::Short => return Reached { line, whole: false },
-            End::Anew => {
-                if !is_further(at, section.at, line, script.len()) {
-                    return Reached { line, whole: false };
-                }
-                at = section.at;
-                number = line;
+        let (cells, rest) = memory.split_at_mut(CELLS);
+        let (screen, rest) = rest.split_at_mut(room);
+        let (keys, notes) = rest.split_at_mut(room);
+        clear(cells);
+        let store = Store {
+            cells,
+            screen,
+            keys,
+            notes,
+        };
+        match play_section(lines, store, page)? {
+            ControlFlow::Break(line) => return Ok(line),
+            ControlFlow::Continue(read) => {
+                lines = next_lines(lines, read).ok_or(Short { line: read.number })?;
             }
         }
     }
@@ -80,29 +78,23 @@ pub fn play(script: &[u8], memory: &mut [u64], out: &mut [u8]) -> Played
     ensures fits { result.printed ≤ length out.old }
     ensures short { length memory.old < 139264 → (result.printed ≡ 0) × (result.whole ≡ false) }
 {
-    if memory.len() < CELLS + 8 * FEWEST {
-        return Played {
-            printed: 0,
-            line: 0,
+    let mut page = Page::new(out);
+    let reached = if memory.len() < LEAST {
+        Err(Short { line: 0 })
+    } else {
+        play_sections(script, memory, &mut page)
+    };
+    let printed = page.len();
+    match reached {
+        Ok(line) => Played {
+            printed,
+            line,
+            whole: true,
+        },
+        Err(Short { line }) => Played {
+            printed,
+            line,
             whole: false,
-        };
-    }
-    let mut mail = [Msg::Tells {
-        from: 0,
-        kind: 0,
-        a: 0,
-        b: 0,
-        c: 0,
-    }; 1536];
-    let room = (memory.len() - CELLS) / 8;
-    let (cells, more) = memory.split_at_mut(CELLS);
-    let (screen, more) = more.split_at_mut(room);
-    let (keys, notes) = more.split_at_mut(room);
-    let mut page = Page { buf: out, len: 0 };
-    let reached = play_sections(script, cells, &mut mail, screen, keys, notes, &mut page);
-    Played {
-        printed: page.len,
-        line: reached.line,
-        whole: reached.whole,
+        },
     }
 }

@@ -4,7 +4,7 @@ ghost use Rattle.script.specs.Pages.{size, written, Printed};
 ghost use Rattle.play.specs.Notes.{report_of, note_text, PrintedNotes};
 
 use memory::{Machine, Note};
-use script::{Page, Report};
+use script::{Full, Page, Report};
 
 // What is printed of a note: what programs ask, keys and rounds aren't.
 fn report_of(n: Note) -> Option<Report>
@@ -23,26 +23,26 @@ fn report_of(n: Note) -> Option<Report>
     }
 }
 
-// Whether there was room for it.
-fn print_note(n: Note, page: &mut Page) -> bool
+// A note's line, or nothing.
+fn print_note(n: Note, page: &mut Page) -> Result<(), Full>
     ensures size { size page.new ≡ size page.old }
     ensures printed { Printed (size page.old) (written page.old) (note_text n) (written page.new) result }
 {
     match report_of(n) {
-        None => true,
+        None => Ok(()),
         Some(report) => page.print(report),
     }
 }
 
-// All notes in their order, as far as there's room; handed back is whether there was room for all.
-pub fn print_notes(machine: &Machine, page: &mut Page) -> bool
+// All notes in their order, as far as there's room.
+#[tactic(auto, unfolding(crate::specs::Notes::notes_text))]
+pub fn print_notes(machine: &Machine, page: &mut Page) -> Result<(), Full>
     ensures size { size page.new ≡ size page.old }
     ensures printed { PrintedNotes (size page.old) (written page.old) machine.now.notes.now machine.now.noted (written page.new) result }
 {
+    // by index: `note_at` makes a note of words, and its clause and that of what is printed both count by it
     for i in 0..machine.noted {
-        if !print_note(machine.note_at(i), page) {
-            return false;
-        }
+        print_note(machine.note_at(i), page)?;
     }
-    true
+    Ok(())
 }

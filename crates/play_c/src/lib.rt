@@ -1,4 +1,5 @@
 // What other languages call: the library's function, under the name and with the clauses that it has there.
+// (A crate is a library or a static library, so it can't be exported where it's written.)
 #![tactic(auto)]
 
 ghost use Rattle.std.specs.Prelude.{◌≡◌, ◌<◌, ◌≤◌, false, length};

@@ -1,8 +1,6 @@
-pub mod Numbering
-pub mod Writing
-pub mod Spelling
-pub mod Counting
-pub mod Cutting
-pub mod Meaning
-pub mod Laws
-pub mod Liner
+mod Meaning
+mod Spelling
+mod Writing
+mod Cutting
+mod Laws
+mod Liner

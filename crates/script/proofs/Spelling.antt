@@ -1,92 +1,117 @@
 -- Lines, spelt word by word. Assumes nothing.
-use Rattle.std.proofs.Common.{◌≡◌, ℕ, true, false, List, [], ◌∷◌, ◌++◌, codes, decimal, sym, refl, ap, ◌∙◌, append_assoc, append-nil}
+use Rattle.std.proofs.Common.{◌≡◌, ℕ, true, false, List, [], ◌∷◌, ◌++◌, length, take, drop, get_or, ◌+◌, ◌<◌, ◌≤◌, take-append-drop, arith, codes, decimal, sym, refl, ap, ◌∙◌, append_assoc, append-nil}
+use Rattle.std.proofs.lemmas.List.{take_more, drop_all}
 use Rattle.heal.specs.declared.Call.{Call}
-use Rattle.heal.specs.declared.Call.TheVariants.{Spawn, Exit, Wait, Kill, Open, Close, Read, Write, Remove, Take, Leave, Say, Hear}
-use Rattle.heal.specs.declared.Answer.TheVariants.{Done, No, Pid, Ended, Handle, Word}
+use Rattle.heal.specs.declared.Call.TheVariants as call
+use Rattle.heal.specs.declared.Answer.{Answer}
+use Rattle.heal.specs.declared.Answer.TheVariants as answer
 use Rattle.script.specs.declared.Line.{Line}
-use Rattle.script.specs.declared.Line.TheVariants.{Ask, Key, Rounds, On, Fall, Falls, New}
+use Rattle.script.specs.declared.Line.TheVariants as line
 use Rattle.script.specs.declared.Report.{Report}
-use Rattle.script.specs.declared.Report.TheVariants.{Told, Shown, Began, Stopped, Busy, Gone, Wrong, GaveUp}
+use Rattle.script.specs.declared.Report.TheVariants as report
 use Rattle.script.specs.declared.words.Token.{Token}
-use Rattle.script.specs.declared.words.Token.TheVariants.{Num, Verb as verb, Order as order, Mark as mark, Note as note, Asked, End, Bad}
 use Rattle.script.specs.Text.{call_text, text_of, answer_text, report_text}
-use Rattle.script.specs.Words.{word_text, spelt, piece, spell, call_tokens, line_tokens, report_tokens}
+use Rattle.script.specs.Words.{spelt, spell, call_words, line_words, answer_words, report_words}
 
-pub spelt_word : (t : Token) → ((n : ℕ) → t ≡ Num n → ⊥) → ((n : ℕ) → t ≡ Asked n → ⊥) → word_text t ≡ spelt t
-unfolding spelt
-spelt_word (Num n) p q = absurd (p n refl)
-spelt_word (verb v) p q = refl
-spelt_word (order o) p q = refl
-spelt_word (mark m) p q = refl
-spelt_word (note n) p q = refl
-spelt_word (Asked n) p q = absurd (q n refl)
-spelt_word End p q = refl
-spelt_word Bad p q = refl
+-- the words after the first, each with a blank in front
+abbrev pub after : List Token → List ℕ
+after [] = []
+after (t ∷ ts) = 32 ∷ (spelt t ++ after ts)
 
-pub piece_some : (t : Token) → (t ≡ End → ⊥) → 32 ∷ spelt t ≡ piece t
-unfolding spelt piece
-piece_some (Num n) p = refl
-piece_some (verb v) p = refl
-piece_some (order o) p = refl
-piece_some (mark m) p = refl
-piece_some (note n) p = refl
-piece_some (Asked n) p = refl
-piece_some End p = absurd (p refl)
-piece_some Bad p = refl
+pub spell_after : (t : Token) (ts : List Token) → spell (t ∷ ts) ≡ spelt t ++ after ts
+unfolding spell
+spell_after t [] = sym (append-nil (spelt t))
+spell_after t (u ∷ us) = ap (λ l. spelt t ++ 32 ∷ l) (spell_after u us)
 
--- how blanks and ends are grouped
-after : (p : ℕ) {xs ys : List ℕ} → xs ≡ ys → decimal p ++ (32 ∷ xs) ≡ (decimal p ++ codes " ") ++ ys
-after p {xs} {ys} e = ap (λ l. decimal p ++ (32 ∷ l)) e ∙ sym (append_assoc (decimal p) (codes " ") ys)
+pub after_append : (ts us : List Token) → after (ts ++ us) ≡ after ts ++ after us
+after_append [] us = refl
+after_append (t ∷ ts) us = ap (λ l. 32 ∷ (spelt t ++ l)) (after_append ts us) ∙ ap (λ l. 32 ∷ l) (sym (append_assoc (spelt t) (after ts) (after us)))
 
-ends : (xs : List ℕ) → (xs ++ []) ++ [] ≡ xs
-ends xs = append-nil (xs ++ []) ∙ append-nil xs
+-- the first word and i more
+abbrev pub first_words : List Token → ℕ → List ℕ
+first_words [] i = []
+first_words (t ∷ ts) i = spelt t ++ after (take i ts)
 
-pair : (xs ys : List ℕ) → xs ++ (32 ∷ ys) ≡ (xs ++ codes " ") ++ ys
-pair xs ys = sym (append_assoc xs (codes " ") ys)
+module _ (words : List Token) (t : Token) (ts : List Token) (e : words ≡ t ∷ ts) (i : ℕ) where
+  pub one_more_word : (d : Token) → i < length ts → first_words words (i + 1) ≡ first_words words i ++ 32 ∷ spelt (get_or ts i d)
+  one_more_word d l =
+      ap (λ ws. first_words ws (i + 1)) e ∙ ap (λ us. spelt t ++ after us) (take_more ts i d l) ∙ ap (λ l. spelt t ++ l) (after_append (take i ts) (get_or ts i d ∷ []))
+      ∙ ap (λ l. spelt t ++ (after (take i ts) ++ 32 ∷ l)) (append-nil (spelt (get_or ts i d))) ∙ sym (append_assoc (spelt t) (after (take i ts)) (32 ∷ spelt (get_or ts i d)))
+      ∙ ap (λ ws. first_words ws i ++ 32 ∷ spelt (get_or ts i d)) (sym e)
 
-pair_end : (xs ys : List ℕ) → xs ++ (32 ∷ (ys ++ [])) ≡ (xs ++ codes " ") ++ ys
-pair_end xs ys = ap (λ l. xs ++ (32 ∷ l)) (append-nil ys) ∙ pair xs ys
+  pub words_then : first_words words i ++ after (drop i ts) ≡ spell words
+  words_then =
+      ap (λ ws. first_words ws i ++ after (drop i ts)) e ∙ append_assoc (spelt t) (after (take i ts)) (after (drop i ts))
+      ∙ ap (λ l. spelt t ++ l) (sym (after_append (take i ts) (drop i ts)) ∙ ap after (take-append-drop i ts)) ∙ sym (spell_after t ts) ∙ ap spell (sym e)
 
-call_text_lem : (p : ℕ) (call : Call) → spell (call_tokens p call) ≡ decimal p ++ codes " " ++ call_text call
-unfolding spell spelt piece call_text
-call_text_lem p (Spawn n) = after p (ap (λ l. codes "spawn " ++ l) (append-nil (decimal n)))
-call_text_lem p (Exit n) = after p (ap (λ l. codes "exit " ++ l) (append-nil (decimal n)))
-call_text_lem p Wait = after p refl
-call_text_lem p (Kill n) = after p (ap (λ l. codes "kill " ++ l) (append-nil (decimal n)))
-call_text_lem p (Open n true) = after p refl
-call_text_lem p (Open n false) = after p refl
-call_text_lem p (Close n) = after p (ap (λ l. codes "close " ++ l) (append-nil (decimal n)))
-call_text_lem p (Read h n) = after p (ap (λ l. codes "read " ++ l) (pair_end (decimal h) (decimal n)))
-call_text_lem p (Write h n x) = after p (ap (λ l. codes "write " ++ l) (pair (decimal h) (decimal n ++ 32 ∷ decimal x) ∙ sym (append_assoc (decimal h ++ codes " ") (decimal n) (32 ∷ decimal x)) ∙ pair (decimal h ++ codes " " ++ decimal n) (decimal x)))
-call_text_lem p (Remove n) = after p (ap (λ l. codes "remove " ++ l) (append-nil (decimal n)))
-call_text_lem p Take = after p refl
-call_text_lem p Leave = after p refl
-call_text_lem p (Say x) = after p (ap (λ l. codes "say " ++ l) (append-nil (decimal x)))
-call_text_lem p Hear = after p refl
+  pub words_whole : length ts ≤ i → first_words words i ≡ spell words
+  words_whole l = sym (append-nil (first_words words i)) ∙ ap (λ us. first_words words i ++ after us) (sym (drop_all i ts l)) ∙ words_then
 
-pub line_text : (l : Line) → spell (line_tokens l) ≡ text_of l
-unfolding spell spelt piece text_of
-line_text (Ask p call) = call_text_lem p call
-line_text (Key n) = ap (λ l. codes "key " ++ l) (ends (decimal n))
-line_text (Rounds n) = ap (λ l. codes "round " ++ l) (ends (decimal n))
-line_text On = refl
-line_text (Fall s n true) = ap (λ l. codes "fall " ++ (l ++ codes " after")) (pair (decimal s) (decimal n))
-line_text (Fall s n false) = ap (λ l. codes "fall " ++ (l ++ codes " before")) (pair (decimal s) (decimal n))
-line_text (Falls s n) = ap (λ l. codes "falls " ++ l) (append-nil _ ∙ pair (decimal s) (decimal n))
-line_text New = refl
+-- one number, and two, with a blank between them
+one : (n : ℕ) → decimal n ++ [] ≡ decimal n
+one n = append-nil (decimal n)
 
-pub report_text_lem : (r : Report) → spell (report_tokens r) ≡ report_text r
-unfolding spell spelt piece answer_text report_text
-report_text_lem (Told p Done) = after p refl
-report_text_lem (Told p (No n)) = after p (ap (λ l. codes "no " ++ l) (append-nil (decimal n)))
-report_text_lem (Told p (Pid n)) = after p (ap (λ l. codes "pid " ++ l) (append-nil (decimal n)))
-report_text_lem (Told p (Ended n code)) = after p (ap (λ l. codes "ended " ++ l) (pair_end (decimal n) (decimal code)))
-report_text_lem (Told p (Handle n)) = after p (ap (λ l. codes "handle " ++ l) (append-nil (decimal n)))
-report_text_lem (Told p (Word x)) = after p (ap (λ l. codes "word " ++ l) (append-nil (decimal x)))
-report_text_lem (Shown place x) = ap (λ l. codes "screen " ++ l) (append-nil _ ∙ pair (decimal place) (decimal x))
-report_text_lem (Began p) = ap (λ l. codes "begin " ++ l) (ends (decimal p))
-report_text_lem (Stopped p) = ap (λ l. codes "stop " ++ l) (ends (decimal p))
-report_text_lem (Busy p) = refl
-report_text_lem (Gone p) = refl
-report_text_lem (Wrong n) = ap (λ l. codes "line " ++ l) (ends (decimal n ++ codes "?"))
-report_text_lem GaveUp = refl
+two : (m n : ℕ) → decimal m ++ 32 ∷ (decimal n ++ []) ≡ (decimal m ++ codes " ") ++ decimal n
+two m n = ap (λ l. decimal m ++ 32 ∷ l) (one n) ∙ sym (append_assoc (decimal m) (codes " ") (decimal n))
+
+then : (n : ℕ) (xs : List ℕ) → decimal n ++ 32 ∷ xs ≡ (decimal n ++ codes " ") ++ xs
+then n xs = sym (append_assoc (decimal n) (codes " ") xs)
+
+call_after : (c : Call) → after (call_words c) ≡ 32 ∷ call_text c
+unfolding call_text
+call_after (call.Spawn n) = ap (λ l. codes " spawn " ++ l) (one n)
+call_after (call.Exit n) = ap (λ l. codes " exit " ++ l) (one n)
+call_after call.Wait = refl
+call_after (call.Kill n) = ap (λ l. codes " kill " ++ l) (one n)
+call_after (call.Open n true) = refl
+call_after (call.Open n false) = refl
+call_after (call.Close n) = ap (λ l. codes " close " ++ l) (one n)
+call_after (call.Read h n) = ap (λ l. codes " read " ++ l) (two h n)
+call_after (call.Write h n x) =
+    ap (λ l. codes " write " ++ l) (ap (λ l. decimal h ++ 32 ∷ l) (two n x) ∙ then h ((decimal n ++ codes " ") ++ decimal x) ∙ sym (append_assoc (decimal h ++ codes " ") (decimal n ++ codes " ") (decimal x)) ∙ ap (λ l. l ++ decimal x) (sym (append_assoc (decimal h ++ codes " ") (decimal n) (codes " "))))
+call_after (call.Remove n) = ap (λ l. codes " remove " ++ l) (one n)
+call_after call.Take = refl
+call_after call.Leave = refl
+call_after (call.Say x) = ap (λ l. codes " say " ++ l) (one x)
+call_after call.Hear = refl
+
+line_after : (l : Line) → after (line_words l) ≡ 32 ∷ text_of l
+unfolding text_of
+line_after (line.Ask p c) = ap (λ l. 32 ∷ (decimal p ++ l)) (call_after c) ∙ ap (λ l. 32 ∷ l) (then p (call_text c))
+line_after (line.Key n) = ap (λ l. codes " key " ++ l) (one n)
+line_after (line.Rounds n) = ap (λ l. codes " round " ++ l) (one n)
+line_after line.On = refl
+line_after (line.Fall s n true) = ap (λ l. codes " fall " ++ l) (then s (decimal n ++ codes " after") ∙ sym (append_assoc (decimal s ++ codes " ") (decimal n) (codes " after")))
+line_after (line.Fall s n false) = ap (λ l. codes " fall " ++ l) (then s (decimal n ++ codes " before") ∙ sym (append_assoc (decimal s ++ codes " ") (decimal n) (codes " before")))
+line_after (line.Falls s n) = ap (λ l. codes " falls " ++ l) (two s n)
+line_after line.New = refl
+
+answer_after : (a : Answer) → after (answer_words a) ≡ 32 ∷ answer_text a
+unfolding answer_text
+answer_after answer.Done = refl
+answer_after (answer.No n) = ap (λ l. codes " no " ++ l) (one n)
+answer_after (answer.Pid n) = ap (λ l. codes " pid " ++ l) (one n)
+answer_after (answer.Ended n code) = ap (λ l. codes " ended " ++ l) (two n code)
+answer_after (answer.Handle n) = ap (λ l. codes " handle " ++ l) (one n)
+answer_after (answer.Word x) = ap (λ l. codes " word " ++ l) (one x)
+
+report_after : (r : Report) → after (report_words r) ≡ 32 ∷ report_text r
+unfolding report_text
+report_after (report.Told p a) = ap (λ l. 32 ∷ (decimal p ++ l)) (answer_after a) ∙ ap (λ l. 32 ∷ l) (then p (answer_text a))
+report_after (report.Shown place x) = ap (λ l. codes " screen " ++ l) (two place x)
+report_after (report.Began p) = ap (λ l. codes " begin " ++ l) (one p)
+report_after (report.Stopped p) = ap (λ l. codes " stop " ++ l) (one p)
+report_after (report.Busy p) = refl
+report_after (report.Gone p) = refl
+report_after (report.Wrong n) = ap (λ l. codes " line " ++ l) (append-nil (decimal n ++ codes "?"))
+report_after report.GaveUp = refl
+
+spelt_once : (ts : List Token) {text : List ℕ} → after ts ≡ 32 ∷ text → spell ts ≡ text
+spelt_once [] e = absurd (omega (arith, ap length e))
+spelt_once (t ∷ ts) e = spell_after t ts ∙ ap (drop 1) e
+
+pub line_text : (l : Line) → spell (line_words l) ≡ text_of l
+line_text l = spelt_once (line_words l) (line_after l)
+
+pub report_text_lem : (r : Report) → spell (report_words r) ≡ report_text r
+report_text_lem r = spelt_once (report_words r) (report_after r)

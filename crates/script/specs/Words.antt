@@ -1,146 +1,108 @@
 -- Lines as words, for contracts of private functions: no public contract names these. Assumes nothing.
-use Rattle.std.specs.Prelude.{ℕ, cond, List, [], ◌∷◌, ◌++◌, codes, decimal}
+use Rattle.std.specs.Prelude.{ℕ, true, false, List, [], ◌∷◌, ◌++◌, map, codes, decimal}
+use Rattle.std.specs.List.{join_with_byte}
 use Rattle.heal.specs.declared.Call.{Call}
-use Rattle.heal.specs.declared.Call.TheVariants.{Spawn, Exit, Wait, Kill, Open, Close, Read, Write, Remove, Take, Leave, Say, Hear}
+use Rattle.heal.specs.declared.Call.TheVariants as call
 use Rattle.heal.specs.declared.Answer.{Answer}
-use Rattle.heal.specs.declared.Answer.TheVariants.{Done, No, Pid, Ended, Handle, Word}
+use Rattle.heal.specs.declared.Answer.TheVariants as answer
 use Rattle.script.specs.declared.Line.{Line}
-use Rattle.script.specs.declared.Line.TheVariants.{Ask, Key, Rounds, On, Fall, Falls, New}
+use Rattle.script.specs.declared.Line.TheVariants as line
 use Rattle.script.specs.declared.Report.{Report}
-use Rattle.script.specs.declared.Report.TheVariants.{Told, Shown, Began, Stopped, Busy, Gone, Wrong, GaveUp}
-use Rattle.script.specs.declared.words.Verb.{Verb}
-use Rattle.script.specs.declared.words.Verb.TheVariants.{Spawn as toSpawn, Exit as toExit, Wait as toWait, Kill as toKill, Open as toOpen, Close as toClose, Read as toRead, Write as toWrite, Remove as toRemove, Take as toTake, Leave as toLeave, Say as toSay, Hear as toHear}
-use Rattle.script.specs.declared.words.Order.{Order}
-use Rattle.script.specs.declared.words.Order.TheVariants.{Key as toKey, Round as toRound, On as toOn, Fall as toFall, Falls as toFalls, New as toNew}
-use Rattle.script.specs.declared.words.Mark.{Mark}
-use Rattle.script.specs.declared.words.Mark.TheVariants.{W, R, After, Before}
-use Rattle.script.specs.declared.words.Note.{Note}
-use Rattle.script.specs.declared.words.Note.TheVariants.{Pid as aPid, Handle as aHandle, Ended as anEnded, Word as aWord, No as aNo, Done as aDone, Screen as aScreen, Begin as aBegin, Stop as aStop, Busy as aBusy, Gone as aGone, Line as aLine, Gave as aGave, Up as anUp}
+use Rattle.script.specs.declared.Report.TheVariants as report
+use Rattle.script.specs.declared.words.Keyword.{Keyword}
+use Rattle.script.specs.declared.words.Keyword.TheVariants as word
 use Rattle.script.specs.declared.words.Token.{Token}
-use Rattle.script.specs.declared.words.Token.TheVariants.{Num, Verb as verb, Order as order, Mark as mark, Note as note, Asked, End, Bad}
-use Rattle.script.specs.declared.words.Tokens.{Tokens}
+use Rattle.script.specs.declared.words.Token.TheVariants.{Number, Asked, Word}
 
-abbrev pub verb_text : Verb → List ℕ
-verb_text toSpawn = codes "spawn"
-verb_text toExit = codes "exit"
-verb_text toWait = codes "wait"
-verb_text toKill = codes "kill"
-verb_text toOpen = codes "open"
-verb_text toClose = codes "close"
-verb_text toRead = codes "read"
-verb_text toWrite = codes "write"
-verb_text toRemove = codes "remove"
-verb_text toTake = codes "take"
-verb_text toLeave = codes "leave"
-verb_text toSay = codes "say"
-verb_text toHear = codes "hear"
+abbrev pub keyword_text : Keyword → List ℕ
+keyword_text word.Spawn = codes "spawn"
+keyword_text word.Exit = codes "exit"
+keyword_text word.Wait = codes "wait"
+keyword_text word.Kill = codes "kill"
+keyword_text word.Open = codes "open"
+keyword_text word.Close = codes "close"
+keyword_text word.Read = codes "read"
+keyword_text word.Write = codes "write"
+keyword_text word.Remove = codes "remove"
+keyword_text word.Take = codes "take"
+keyword_text word.Leave = codes "leave"
+keyword_text word.Say = codes "say"
+keyword_text word.Hear = codes "hear"
+keyword_text word.Key = codes "key"
+keyword_text word.Round = codes "round"
+keyword_text word.On = codes "on"
+keyword_text word.Fall = codes "fall"
+keyword_text word.Falls = codes "falls"
+keyword_text word.New = codes "new"
+keyword_text word.W = codes "w"
+keyword_text word.R = codes "r"
+keyword_text word.After = codes "after"
+keyword_text word.Before = codes "before"
+keyword_text word.Pid = codes "pid"
+keyword_text word.Handle = codes "handle"
+keyword_text word.Ended = codes "ended"
+keyword_text word.Word = codes "word"
+keyword_text word.No = codes "no"
+keyword_text word.Done = codes "done"
+keyword_text word.Screen = codes "screen"
+keyword_text word.Begin = codes "begin"
+keyword_text word.Stop = codes "stop"
+keyword_text word.Busy = codes "busy"
+keyword_text word.Gone = codes "gone"
+keyword_text word.Line = codes "line"
+keyword_text word.Gave = codes "gave"
+keyword_text word.Up = codes "up"
 
-abbrev pub order_text : Order → List ℕ
-order_text toKey = codes "key"
-order_text toRound = codes "round"
-order_text toOn = codes "on"
-order_text toFall = codes "fall"
-order_text toFalls = codes "falls"
-order_text toNew = codes "new"
-
-abbrev pub mark_text : Mark → List ℕ
-mark_text W = codes "w"
-mark_text R = codes "r"
-mark_text After = codes "after"
-mark_text Before = codes "before"
-
-abbrev pub note_text : Note → List ℕ
-note_text aPid = codes "pid"
-note_text aHandle = codes "handle"
-note_text anEnded = codes "ended"
-note_text aWord = codes "word"
-note_text aNo = codes "no"
-note_text aDone = codes "done"
-note_text aScreen = codes "screen"
-note_text aBegin = codes "begin"
-note_text aStop = codes "stop"
-note_text aBusy = codes "busy"
-note_text aGone = codes "gone"
-note_text aLine = codes "line"
-note_text aGave = codes "gave"
-note_text anUp = codes "up"
-
--- the text of a keyword
-abbrev pub word_text : Token → List ℕ
-word_text (Num n) = []
-word_text (verb v) = verb_text v
-word_text (order o) = order_text o
-word_text (mark m) = mark_text m
-word_text (note n) = note_text n
-word_text (Asked n) = []
-word_text End = []
-word_text Bad = []
-
-unfoldable pub spelt : Token → List ℕ
-spelt (Num n) = decimal n
-spelt (verb v) = verb_text v
-spelt (order o) = order_text o
-spelt (mark m) = mark_text m
-spelt (note n) = note_text n
+abbrev pub spelt : Token → List ℕ
+spelt (Number n) = decimal n
 spelt (Asked n) = decimal n ++ 63 ∷ []
-spelt End = []
-spelt Bad = []
+spelt (Word w) = keyword_text w
 
--- a word after the first has a blank in front
-unfoldable pub piece : Token → List ℕ
-piece (Num n) = 32 ∷ spelt (Num n)
-piece (verb v) = 32 ∷ spelt (verb v)
-piece (order o) = 32 ∷ spelt (order o)
-piece (mark m) = 32 ∷ spelt (mark m)
-piece (note n) = 32 ∷ spelt (note n)
-piece (Asked n) = 32 ∷ spelt (Asked n)
-piece End = []
-piece Bad = 32 ∷ spelt Bad
+-- words have a blank between them
+unfoldable pub spell : List Token → List ℕ
+spell ts = join_with_byte 32 (map spelt ts)
 
-unfoldable pub spell : Tokens → List ℕ
-spell t = spelt t.head ++ ((piece t.a ++ piece t.b) ++ (piece t.c ++ piece t.d))
+-- what stands after the program's number
+abbrev pub call_words : Call → List Token
+call_words (call.Spawn n) = Word word.Spawn ∷ Number n ∷ []
+call_words (call.Exit n) = Word word.Exit ∷ Number n ∷ []
+call_words call.Wait = Word word.Wait ∷ []
+call_words (call.Kill n) = Word word.Kill ∷ Number n ∷ []
+call_words (call.Open n true) = Word word.Open ∷ Number n ∷ Word word.W ∷ []
+call_words (call.Open n false) = Word word.Open ∷ Number n ∷ Word word.R ∷ []
+call_words (call.Close n) = Word word.Close ∷ Number n ∷ []
+call_words (call.Read h n) = Word word.Read ∷ Number h ∷ Number n ∷ []
+call_words (call.Write h n x) = Word word.Write ∷ Number h ∷ Number n ∷ Number x ∷ []
+call_words (call.Remove n) = Word word.Remove ∷ Number n ∷ []
+call_words call.Take = Word word.Take ∷ []
+call_words call.Leave = Word word.Leave ∷ []
+call_words (call.Say x) = Word word.Say ∷ Number x ∷ []
+call_words call.Hear = Word word.Hear ∷ []
 
-abbrev pub five : Token → Token → Token → Token → Token → Tokens
-five h a b c d = record { head = h; a = a; b = b; c = c; d = d }
+abbrev pub line_words : Line → List Token
+line_words (line.Ask p c) = Number p ∷ call_words c
+line_words (line.Key n) = Word word.Key ∷ Number n ∷ []
+line_words (line.Rounds n) = Word word.Round ∷ Number n ∷ []
+line_words line.On = Word word.On ∷ []
+line_words (line.Fall s n true) = Word word.Fall ∷ Number s ∷ Number n ∷ Word word.After ∷ []
+line_words (line.Fall s n false) = Word word.Fall ∷ Number s ∷ Number n ∷ Word word.Before ∷ []
+line_words (line.Falls s n) = Word word.Falls ∷ Number s ∷ Number n ∷ []
+line_words line.New = Word word.New ∷ []
 
-abbrev pub call_tokens : ℕ → Call → Tokens
-call_tokens p (Spawn n) = five (Num p) (verb toSpawn) (Num n) End End
-call_tokens p (Exit n) = five (Num p) (verb toExit) (Num n) End End
-call_tokens p Wait = five (Num p) (verb toWait) End End End
-call_tokens p (Kill n) = five (Num p) (verb toKill) (Num n) End End
-call_tokens p (Open n w) = five (Num p) (verb toOpen) (Num n) (mark (cond w W R)) End
-call_tokens p (Close n) = five (Num p) (verb toClose) (Num n) End End
-call_tokens p (Read h n) = five (Num p) (verb toRead) (Num h) (Num n) End
-call_tokens p (Write h n x) = five (Num p) (verb toWrite) (Num h) (Num n) (Num x)
-call_tokens p (Remove n) = five (Num p) (verb toRemove) (Num n) End End
-call_tokens p Take = five (Num p) (verb toTake) End End End
-call_tokens p Leave = five (Num p) (verb toLeave) End End End
-call_tokens p (Say x) = five (Num p) (verb toSay) (Num x) End End
-call_tokens p Hear = five (Num p) (verb toHear) End End End
+abbrev pub answer_words : Answer → List Token
+answer_words answer.Done = Word word.Done ∷ []
+answer_words (answer.No n) = Word word.No ∷ Number n ∷ []
+answer_words (answer.Pid n) = Word word.Pid ∷ Number n ∷ []
+answer_words (answer.Ended n code) = Word word.Ended ∷ Number n ∷ Number code ∷ []
+answer_words (answer.Handle n) = Word word.Handle ∷ Number n ∷ []
+answer_words (answer.Word x) = Word word.Word ∷ Number x ∷ []
 
-abbrev pub line_tokens : Line → Tokens
-line_tokens (Ask p call) = call_tokens p call
-line_tokens (Key n) = five (order toKey) (Num n) End End End
-line_tokens (Rounds n) = five (order toRound) (Num n) End End End
-line_tokens On = five (order toOn) End End End End
-line_tokens (Fall s n after) = five (order toFall) (Num s) (Num n) (mark (cond after After Before)) End
-line_tokens (Falls s n) = five (order toFalls) (Num s) (Num n) End End
-line_tokens New = five (order toNew) End End End End
-
-abbrev pub answer_tokens : ℕ → Answer → Tokens
-answer_tokens p Done = five (Num p) (note aDone) End End End
-answer_tokens p (No n) = five (Num p) (note aNo) (Num n) End End
-answer_tokens p (Pid n) = five (Num p) (note aPid) (Num n) End End
-answer_tokens p (Ended n code) = five (Num p) (note anEnded) (Num n) (Num code) End
-answer_tokens p (Handle n) = five (Num p) (note aHandle) (Num n) End End
-answer_tokens p (Word x) = five (Num p) (note aWord) (Num x) End End
-
-abbrev pub report_tokens : Report → Tokens
-report_tokens (Told p answer) = answer_tokens p answer
-report_tokens (Shown place x) = five (note aScreen) (Num place) (Num x) End End
-report_tokens (Began p) = five (note aBegin) (Num p) End End End
-report_tokens (Stopped p) = five (note aStop) (Num p) End End End
-report_tokens (Busy p) = five (Num p) (note aBusy) End End End
-report_tokens (Gone p) = five (Num p) (note aGone) End End End
-report_tokens (Wrong n) = five (note aLine) (Asked n) End End End
-report_tokens GaveUp = five (order toOn) (note aGave) (note anUp) End End
+abbrev pub report_words : Report → List Token
+report_words (report.Told p a) = Number p ∷ answer_words a
+report_words (report.Shown place x) = Word word.Screen ∷ Number place ∷ Number x ∷ []
+report_words (report.Began p) = Word word.Begin ∷ Number p ∷ []
+report_words (report.Stopped p) = Word word.Stop ∷ Number p ∷ []
+report_words (report.Busy p) = Number p ∷ Word word.Busy ∷ []
+report_words (report.Gone p) = Number p ∷ Word word.Gone ∷ []
+report_words (report.Wrong n) = Word word.Line ∷ Asked n ∷ []
+report_words report.GaveUp = Word word.On ∷ Word word.Gave ∷ Word word.Up ∷ []

@@ -5,17 +5,15 @@ ghost use Rattle.std.specs.Prelude.{◌≡◌, MatchOption, ◌≢◌};
 ghost use Rattle.script.specs.Text.{text_of, Valid};
 ghost use Rattle.script.specs.Law.{ComesBack};
 
-mod each;
 mod lines;
 mod page;
-mod print;
 mod read;
 mod sense;
 mod words;
 
 use heal::{Answer, Call};
-pub use lines::Lines;
-pub use page::Page;
+pub use lines::{Lines, WrongLine};
+pub use page::{Full, Page};
 use read::cut;
 use sense::line_of;
 
@@ -27,7 +25,8 @@ pub enum Line {
     Key(u32),
     Rounds(u32),
     On,
-    // the server, which thing it asks from here on, after it's done or before
+    // the server, which thing it asks from here on, after it's done or before (a bool, as `Call::Open` has one, whose text is fixed: both are
+    // a mark of two in a script, read and printed alike)
     Fall(u32, u32, bool),
     // seed and rate
     Falls(u32, u32),
@@ -47,19 +46,11 @@ pub enum Report {
     GaveUp,
 }
 
-// What a script has next. `Wrong` has the number of the line, counted from 1.
-#[derive(Clone, Copy)]
-pub enum Next {
-    End,
-    Wrong(u64),
-    Says(Line),
-}
-
 // The inverse of the printer: the valid line that has this text.
 pub fn parse(text: &[u8]) -> Option<Line>
     ensures { MatchOption result ((l : Line) → Valid l → text.now ≢ text_of l) (λ l. Valid l × (text.now ≡ text_of l)) }
 {
-    line_of(cut(text))
+    line_of(&cut(text)?)
 }
 
 // The law: no two valid lines have one text, so a line that is printed and parsed again is the same line.

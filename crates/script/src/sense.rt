@@ -1,207 +1,68 @@
 // What words mean: the line that they are the words of.
-ghost use Rattle.std.specs.Prelude.{◌≡◌};
-ghost use Rattle.script.specs.Senses.{is_end, small_of, mode_of, side_of, none_of, one_of, two_of, three_of, open_of, fall_of, call_of, order_of, ask_of, line_of};
+ghost use Rattle.std.specs.Prelude.{◌≡◌, Some, None, if◌then◌else◌};
+ghost use Rattle.script.specs.Senses.{small, call_of, line_of};
 
 use super::Line;
-use super::words::{Mark, Order, Token, Tokens, Verb};
+use super::words::Keyword;
+use super::words::Token::{self, Number, Word};
 use heal::Call;
 
-const LAST_PROGRAM: u64 = 63;
-
-fn is_end(t: Token) -> bool
-    ensures { result ≡ is_end t }
-{
-    match t {
-        Token::End => true,
-        _ => false,
-    }
-}
-
 // A number below 2^32.
-fn small(t: Token) -> Option<u32>
-    ensures { result ≡ small_of t }
+fn small(n: u64) -> Option<u32>
+    ensures { result ≡ if small n then Some n else None }
 {
-    match t {
-        Token::Num(n) => { if n < 4294967296 { Some(n as u32) } else { None } }
+    u32::try_from(n).ok()
+}
+
+// What a program asks.
+fn call_of(words: &[Token]) -> Option<Call>
+    ensures { result ≡ call_of words.now }
+{
+    match words {
+        [Word(Keyword::Spawn), Number(n)] => Some(Call::Spawn(small(*n)?)),
+        [Word(Keyword::Exit), Number(n)] => Some(Call::Exit(small(*n)?)),
+        [Word(Keyword::Wait)] => Some(Call::Wait),
+        [Word(Keyword::Kill), Number(n)] => Some(Call::Kill(small(*n)?)),
+        [Word(Keyword::Open), Number(n), Word(Keyword::W)] => Some(Call::Open(small(*n)?, true)),
+        [Word(Keyword::Open), Number(n), Word(Keyword::R)] => Some(Call::Open(small(*n)?, false)),
+        [Word(Keyword::Close), Number(n)] => Some(Call::Close(small(*n)?)),
+        [Word(Keyword::Read), Number(h), Number(n)] => Some(Call::Read(small(*h)?, small(*n)?)),
+        [Word(Keyword::Write), Number(h), Number(n), Number(x)] => Some(Call::Write(
+            small(*h)?,
+            small(*n)?,
+            small(*x)? as u64,
+        )),
+        [Word(Keyword::Remove), Number(n)] => Some(Call::Remove(small(*n)?)),
+        [Word(Keyword::Take)] => Some(Call::Take),
+        [Word(Keyword::Leave)] => Some(Call::Leave),
+        [Word(Keyword::Say), Number(x)] => Some(Call::Say(small(*x)? as u64)),
+        [Word(Keyword::Hear)] => Some(Call::Hear),
         _ => None,
     }
 }
 
-// Whether a file is opened to be written.
-fn mode(t: Token) -> Option<bool>
-    ensures { result ≡ mode_of t }
+pub fn line_of(words: &[Token]) -> Option<Line>
+    ensures { result ≡ line_of words.now }
 {
-    match t {
-        Token::Mark(m) => match m {
-            Mark::W => Some(true),
-            Mark::R => Some(false),
-            Mark::After => None,
-            Mark::Before => None,
-        },
-        _ => None,
-    }
-}
-
-// Whether it's fallen after a thing is done.
-fn side(t: Token) -> Option<bool>
-    ensures { result ≡ side_of t }
-{
-    match t {
-        Token::Mark(m) => match m {
-            Mark::W => None,
-            Mark::R => None,
-            Mark::After => Some(true),
-            Mark::Before => Some(false),
-        },
-        _ => None,
-    }
-}
-
-fn none(a: Token, b: Token, c: Token) -> bool
-    ensures { result ≡ none_of a b c }
-{
-    is_end(a) && is_end(b) && is_end(c)
-}
-
-fn one(a: Token, b: Token, c: Token) -> Option<u32>
-    ensures { result ≡ one_of a b c }
-{
-    if !is_end(b) {
-        return None;
-    }
-    if !is_end(c) {
-        return None;
-    }
-    small(a)
-}
-
-fn two(a: Token, b: Token, c: Token) -> Option<(u32, u32)>
-    ensures { result ≡ two_of a b c }
-{
-    if !is_end(c) {
-        return None;
-    }
-    let x = small(a)?;
-    let y = small(b)?;
-    Some((x, y))
-}
-
-fn write(a: Token, b: Token, c: Token) -> Option<Call>
-    ensures { result ≡ three_of a b c }
-{
-    let x = small(a)?;
-    let y = small(b)?;
-    let z = small(c)?;
-    Some(Call::Write(x, y, z as u64))
-}
-
-fn open(a: Token, b: Token, c: Token) -> Option<Call>
-    ensures { result ≡ open_of a b c }
-{
-    if !is_end(c) {
-        return None;
-    }
-    let n = small(a)?;
-    let w = mode(b)?;
-    Some(Call::Open(n, w))
-}
-
-fn fall(a: Token, b: Token, c: Token) -> Option<Line>
-    ensures { result ≡ fall_of a b c }
-{
-    let s = small(a)?;
-    let n = small(b)?;
-    let after = side(c)?;
-    if s > 2 {
-        return None;
-    }
-    if n < 1 {
-        return None;
-    }
-    Some(Line::Fall(s, n, after))
-}
-
-fn call_of(v: Verb, a: Token, b: Token, c: Token) -> Option<Call>
-    ensures { result ≡ call_of v a b c }
-{
-    match v {
-        Verb::Spawn => Some(Call::Spawn(one(a, b, c)?)),
-        Verb::Exit => Some(Call::Exit(one(a, b, c)?)),
-        Verb::Wait => if none(a, b, c) {
-            Some(Call::Wait)
-        } else {
-            None
-        },
-        Verb::Kill => Some(Call::Kill(one(a, b, c)?)),
-        Verb::Open => open(a, b, c),
-        Verb::Close => Some(Call::Close(one(a, b, c)?)),
-        Verb::Read => {
-            let (h, n) = two(a, b, c)?;
-            Some(Call::Read(h, n))
-        }
-        Verb::Write => write(a, b, c),
-        Verb::Remove => Some(Call::Remove(one(a, b, c)?)),
-        Verb::Take => if none(a, b, c) {
-            Some(Call::Take)
-        } else {
-            None
-        },
-        Verb::Leave => if none(a, b, c) {
-            Some(Call::Leave)
-        } else {
-            None
-        },
-        Verb::Say => Some(Call::Say(one(a, b, c)? as u64)),
-        Verb::Hear => if none(a, b, c) {
-            Some(Call::Hear)
-        } else {
-            None
-        },
-    }
-}
-
-fn order_of(o: Order, a: Token, b: Token, c: Token) -> Option<Line>
-    ensures { result ≡ order_of o a b c }
-{
-    match o {
-        Order::Key => Some(Line::Key(one(a, b, c)?)),
-        Order::Round => Some(Line::Rounds(one(a, b, c)?)),
-        Order::On => if none(a, b, c) { Some(Line::On) } else { None },
-        Order::Fall => fall(a, b, c),
-        Order::Falls => {
-            let (s, n) = two(a, b, c)?;
-            Some(Line::Falls(s, n))
-        }
-        Order::New => if none(a, b, c) { Some(Line::New) } else { None },
-    }
-}
-
-// What program `p` asks.
-fn ask_of(p: u64, a: Token, b: Token, c: Token, d: Token) -> Option<Line>
-    ensures { result ≡ ask_of p a b c d }
-{
-    if p < 1 {
-        return None;
-    }
-    if p > LAST_PROGRAM {
-        return None;
-    }
-    match a {
-        Token::Verb(v) => Some(Line::Ask(p as u32, call_of(v, b, c, d)?)),
-        _ => None,
-    }
-}
-
-pub fn line_of(t: Tokens) -> Option<Line>
-    ensures { result ≡ line_of t }
-{
-    match t.head {
-        Token::Num(p) => ask_of(p, t.a, t.b, t.c, t.d),
-        Token::Order(o) => if is_end(t.d) {
-            order_of(o, t.a, t.b, t.c)
-        } else {
-            None
-        },
+    match words {
+        [Number(program @ 1..=63), call @ ..] => Some(Line::Ask(*program as u32, call_of(call)?)),
+        [Word(Keyword::Key), Number(n)] => Some(Line::Key(small(*n)?)),
+        [Word(Keyword::Round), Number(n)] => Some(Line::Rounds(small(*n)?)),
+        [Word(Keyword::On)] => Some(Line::On),
+        [
+            Word(Keyword::Fall),
+            Number(s @ 0..=2),
+            Number(n @ 1..),
+            Word(Keyword::After),
+        ] => Some(Line::Fall(*s as u32, small(*n)?, true)),
+        [
+            Word(Keyword::Fall),
+            Number(s @ 0..=2),
+            Number(n @ 1..),
+            Word(Keyword::Before),
+        ] => Some(Line::Fall(*s as u32, small(*n)?, false)),
+        [Word(Keyword::Falls), Number(s), Number(n)] => Some(Line::Falls(small(*s)?, small(*n)?)),
+        [Word(Keyword::New)] => Some(Line::New),
         _ => None,
     }
 }

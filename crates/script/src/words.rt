@@ -1,13 +1,16 @@
-// The words that lines are made of: keywords and numbers.
-ghost use Rattle.std.specs.Prelude.{◌≡◌};
-ghost use Rattle.script.specs.Words.{verb_text, order_text, mark_text, note_text, word_text, line_tokens, call_tokens, report_tokens, answer_tokens};
+// The words that lines are made of: numbers and keywords.
+ghost use Rattle.std.specs.Prelude.{◌≡◌, ◌≤◌, ◌∷◌, length};
+ghost use Rattle.script.specs.declared.words.Token.TheVariants.{Number};
+ghost use Rattle.script.specs.Words.{keyword_text, call_words, line_words, answer_words, report_words};
 
 use super::{Line, Report};
+use Token::{Asked, Number, Word};
+use arrayvec::ArrayVec;
 use heal::{Answer, Call};
 
-// What a program asks.
 #[derive(Clone, Copy)]
-pub enum Verb {
+pub enum Keyword {
+    // what a program asks
     Spawn,
     Exit,
     Wait,
@@ -21,30 +24,19 @@ pub enum Verb {
     Leave,
     Say,
     Hear,
-}
-
-// What a line without a program begins with.
-#[derive(Clone, Copy)]
-pub enum Order {
+    // what a line without a program begins with
     Key,
     Round,
     On,
     Fall,
     Falls,
     New,
-}
-
-#[derive(Clone, Copy)]
-pub enum Mark {
+    // how a file is opened, and when a server falls
     W,
     R,
     After,
     Before,
-}
-
-// Words that are only printed.
-#[derive(Clone, Copy)]
-pub enum Note {
+    // what only reports have
     Pid,
     Handle,
     Ended,
@@ -61,368 +53,218 @@ pub enum Note {
     Up,
 }
 
+// One word of a line.
 #[derive(Clone, Copy)]
 pub enum Token {
-    Num(u64),
-    Verb(Verb),
-    Order(Order),
-    Mark(Mark),
-    Note(Note),
-    // a number with a question mark
+    Number(u64),
+    // a number that a question mark follows
     Asked(u64),
-    // there are no more
-    End,
-    // no word of these
-    Bad,
+    Word(Keyword),
 }
 
-// A line, cut into words; what isn't there is `End`.
-#[derive(Clone, Copy)]
-pub struct Tokens {
-    pub head: Token,
-    pub a: Token,
-    pub b: Token,
-    pub c: Token,
-    pub d: Token,
-}
+impl Keyword {
+    pub const ALL: [Keyword; 37] = [
+        Keyword::Spawn,
+        Keyword::Exit,
+        Keyword::Wait,
+        Keyword::Kill,
+        Keyword::Open,
+        Keyword::Close,
+        Keyword::Read,
+        Keyword::Write,
+        Keyword::Remove,
+        Keyword::Take,
+        Keyword::Leave,
+        Keyword::Say,
+        Keyword::Hear,
+        Keyword::Key,
+        Keyword::Round,
+        Keyword::On,
+        Keyword::Fall,
+        Keyword::Falls,
+        Keyword::New,
+        Keyword::W,
+        Keyword::R,
+        Keyword::After,
+        Keyword::Before,
+        Keyword::Pid,
+        Keyword::Handle,
+        Keyword::Ended,
+        Keyword::Word,
+        Keyword::No,
+        Keyword::Done,
+        Keyword::Screen,
+        Keyword::Begin,
+        Keyword::Stop,
+        Keyword::Busy,
+        Keyword::Gone,
+        Keyword::Line,
+        Keyword::Gave,
+        Keyword::Up,
+    ];
 
-fn verb_text(v: Verb) -> &'static [u8]
-    ensures { result.now ≡ verb_text v }
-{
-    match v {
-        Verb::Spawn => b"spawn",
-        Verb::Exit => b"exit",
-        Verb::Wait => b"wait",
-        Verb::Kill => b"kill",
-        Verb::Open => b"open",
-        Verb::Close => b"close",
-        Verb::Read => b"read",
-        Verb::Write => b"write",
-        Verb::Remove => b"remove",
-        Verb::Take => b"take",
-        Verb::Leave => b"leave",
-        Verb::Say => b"say",
-        Verb::Hear => b"hear",
+    pub fn text(self) -> &'static [u8]
+        ensures { result.now ≡ keyword_text self }
+    {
+        match self {
+            Keyword::Spawn => b"spawn",
+            Keyword::Exit => b"exit",
+            Keyword::Wait => b"wait",
+            Keyword::Kill => b"kill",
+            Keyword::Open => b"open",
+            Keyword::Close => b"close",
+            Keyword::Read => b"read",
+            Keyword::Write => b"write",
+            Keyword::Remove => b"remove",
+            Keyword::Take => b"take",
+            Keyword::Leave => b"leave",
+            Keyword::Say => b"say",
+            Keyword::Hear => b"hear",
+            Keyword::Key => b"key",
+            Keyword::Round => b"round",
+            Keyword::On => b"on",
+            Keyword::Fall => b"fall",
+            Keyword::Falls => b"falls",
+            Keyword::New => b"new",
+            Keyword::W => b"w",
+            Keyword::R => b"r",
+            Keyword::After => b"after",
+            Keyword::Before => b"before",
+            Keyword::Pid => b"pid",
+            Keyword::Handle => b"handle",
+            Keyword::Ended => b"ended",
+            Keyword::Word => b"word",
+            Keyword::No => b"no",
+            Keyword::Done => b"done",
+            Keyword::Screen => b"screen",
+            Keyword::Begin => b"begin",
+            Keyword::Stop => b"stop",
+            Keyword::Busy => b"busy",
+            Keyword::Gone => b"gone",
+            Keyword::Line => b"line",
+            Keyword::Gave => b"gave",
+            Keyword::Up => b"up",
+        }
     }
 }
 
-fn order_text(o: Order) -> &'static [u8]
-    ensures { result.now ≡ order_text o }
-{
-    match o {
-        Order::Key => b"key",
-        Order::Round => b"round",
-        Order::On => b"on",
-        Order::Fall => b"fall",
-        Order::Falls => b"falls",
-        Order::New => b"new",
+// What stands where an `ArrayVec` has no word yet. (By hand: a derive takes a variant without fields, and there's none.)
+impl Default for Token {
+    fn default() -> Token {
+        Number(0)
     }
 }
 
-fn mark_text(m: Mark) -> &'static [u8]
-    ensures { result.now ≡ mark_text m }
+// The words of a line.
+pub type Words = ArrayVec<Token, 5>;
+
+fn words(list: &[Token]) -> Words
+    requires { length list.now ≤ 5 }
+    ensures { result.items ≡ list.now }
 {
-    match m {
-        Mark::W => b"w",
-        Mark::R => b"r",
-        Mark::After => b"after",
-        Mark::Before => b"before",
-    }
+    Words::try_from(list).unwrap()
 }
 
-fn note_text(n: Note) -> &'static [u8]
-    ensures { result.now ≡ note_text n }
+// What program `pid` asks.
+fn call_words(pid: u32, call: Call) -> Words
+    ensures { result.items ≡ Number pid ∷ call_words call }
 {
-    match n {
-        Note::Pid => b"pid",
-        Note::Handle => b"handle",
-        Note::Ended => b"ended",
-        Note::Word => b"word",
-        Note::No => b"no",
-        Note::Done => b"done",
-        Note::Screen => b"screen",
-        Note::Begin => b"begin",
-        Note::Stop => b"stop",
-        Note::Busy => b"busy",
-        Note::Gone => b"gone",
-        Note::Line => b"line",
-        Note::Gave => b"gave",
-        Note::Up => b"up",
-    }
-}
-
-// The text of a keyword; nothing for any other word.
-pub fn word_text(t: Token) -> &'static [u8]
-    ensures { result.now ≡ word_text t }
-{
-    match t {
-        Token::Verb(v) => verb_text(v),
-        Token::Order(o) => order_text(o),
-        Token::Mark(m) => mark_text(m),
-        Token::Note(n) => note_text(n),
-        Token::Num(_) => b"",
-        Token::Asked(_) => b"",
-        Token::End => b"",
-        Token::Bad => b"",
-    }
-}
-
-fn call_tokens(p: u32, call: Call) -> Tokens
-    ensures { result ≡ call_tokens p call }
-{
-    let head = Token::Num(p as u64);
-    let end = Token::End;
+    let program = Number(pid as u64);
     match call {
-        Call::Spawn(n) => Tokens {
-            head,
-            a: Token::Verb(Verb::Spawn),
-            b: Token::Num(n as u64),
-            c: end,
-            d: end,
-        },
-        Call::Exit(n) => Tokens {
-            head,
-            a: Token::Verb(Verb::Exit),
-            b: Token::Num(n as u64),
-            c: end,
-            d: end,
-        },
-        Call::Wait => Tokens {
-            head,
-            a: Token::Verb(Verb::Wait),
-            b: end,
-            c: end,
-            d: end,
-        },
-        Call::Kill(n) => Tokens {
-            head,
-            a: Token::Verb(Verb::Kill),
-            b: Token::Num(n as u64),
-            c: end,
-            d: end,
-        },
-        Call::Open(n, w) => Tokens {
-            head,
-            a: Token::Verb(Verb::Open),
-            b: Token::Num(n as u64),
-            c: Token::Mark(if w { Mark::W } else { Mark::R }),
-            d: end,
-        },
-        Call::Close(n) => Tokens {
-            head,
-            a: Token::Verb(Verb::Close),
-            b: Token::Num(n as u64),
-            c: end,
-            d: end,
-        },
-        Call::Read(h, n) => Tokens {
-            head,
-            a: Token::Verb(Verb::Read),
-            b: Token::Num(h as u64),
-            c: Token::Num(n as u64),
-            d: end,
-        },
-        Call::Write(h, n, x) => Tokens {
-            head,
-            a: Token::Verb(Verb::Write),
-            b: Token::Num(h as u64),
-            c: Token::Num(n as u64),
-            d: Token::Num(x),
-        },
-        Call::Remove(n) => Tokens {
-            head,
-            a: Token::Verb(Verb::Remove),
-            b: Token::Num(n as u64),
-            c: end,
-            d: end,
-        },
-        Call::Take => Tokens {
-            head,
-            a: Token::Verb(Verb::Take),
-            b: end,
-            c: end,
-            d: end,
-        },
-        Call::Leave => Tokens {
-            head,
-            a: Token::Verb(Verb::Leave),
-            b: end,
-            c: end,
-            d: end,
-        },
-        Call::Say(x) => Tokens {
-            head,
-            a: Token::Verb(Verb::Say),
-            b: Token::Num(x),
-            c: end,
-            d: end,
-        },
-        Call::Hear => Tokens {
-            head,
-            a: Token::Verb(Verb::Hear),
-            b: end,
-            c: end,
-            d: end,
-        },
+        Call::Spawn(n) => words(&[program, Word(Keyword::Spawn), Number(n as u64)]),
+        Call::Exit(n) => words(&[program, Word(Keyword::Exit), Number(n as u64)]),
+        Call::Wait => words(&[program, Word(Keyword::Wait)]),
+        Call::Kill(n) => words(&[program, Word(Keyword::Kill), Number(n as u64)]),
+        Call::Open(n, true) => words(&[
+            program,
+            Word(Keyword::Open),
+            Number(n as u64),
+            Word(Keyword::W),
+        ]),
+        Call::Open(n, false) => words(&[
+            program,
+            Word(Keyword::Open),
+            Number(n as u64),
+            Word(Keyword::R),
+        ]),
+        Call::Close(n) => words(&[program, Word(Keyword::Close), Number(n as u64)]),
+        Call::Read(h, n) => words(&[
+            program,
+            Word(Keyword::Read),
+            Number(h as u64),
+            Number(n as u64),
+        ]),
+        Call::Write(h, n, x) => words(&[
+            program,
+            Word(Keyword::Write),
+            Number(h as u64),
+            Number(n as u64),
+            Number(x),
+        ]),
+        Call::Remove(n) => words(&[program, Word(Keyword::Remove), Number(n as u64)]),
+        Call::Take => words(&[program, Word(Keyword::Take)]),
+        Call::Leave => words(&[program, Word(Keyword::Leave)]),
+        Call::Say(x) => words(&[program, Word(Keyword::Say), Number(x)]),
+        Call::Hear => words(&[program, Word(Keyword::Hear)]),
     }
 }
 
-pub fn line_tokens(l: Line) -> Tokens
-    ensures { result ≡ line_tokens l }
+pub fn line_words(line: Line) -> Words
+    ensures { result.items ≡ line_words line }
 {
-    let end = Token::End;
-    match l {
-        Line::Ask(p, call) => call_tokens(p, call),
-        Line::Key(n) => Tokens {
-            head: Token::Order(Order::Key),
-            a: Token::Num(n as u64),
-            b: end,
-            c: end,
-            d: end,
-        },
-        Line::Rounds(n) => Tokens {
-            head: Token::Order(Order::Round),
-            a: Token::Num(n as u64),
-            b: end,
-            c: end,
-            d: end,
-        },
-        Line::On => Tokens {
-            head: Token::Order(Order::On),
-            a: end,
-            b: end,
-            c: end,
-            d: end,
-        },
-        Line::Fall(s, n, after) => Tokens {
-            head: Token::Order(Order::Fall),
-            a: Token::Num(s as u64),
-            b: Token::Num(n as u64),
-            c: Token::Mark(if after { Mark::After } else { Mark::Before }),
-            d: end,
-        },
-        Line::Falls(s, n) => Tokens {
-            head: Token::Order(Order::Falls),
-            a: Token::Num(s as u64),
-            b: Token::Num(n as u64),
-            c: end,
-            d: end,
-        },
-        Line::New => Tokens {
-            head: Token::Order(Order::New),
-            a: end,
-            b: end,
-            c: end,
-            d: end,
-        },
+    match line {
+        Line::Ask(pid, call) => call_words(pid, call),
+        Line::Key(n) => words(&[Word(Keyword::Key), Number(n as u64)]),
+        Line::Rounds(n) => words(&[Word(Keyword::Round), Number(n as u64)]),
+        Line::On => words(&[Word(Keyword::On)]),
+        Line::Fall(s, n, true) => words(&[
+            Word(Keyword::Fall),
+            Number(s as u64),
+            Number(n as u64),
+            Word(Keyword::After),
+        ]),
+        Line::Fall(s, n, false) => words(&[
+            Word(Keyword::Fall),
+            Number(s as u64),
+            Number(n as u64),
+            Word(Keyword::Before),
+        ]),
+        Line::Falls(s, n) => words(&[Word(Keyword::Falls), Number(s as u64), Number(n as u64)]),
+        Line::New => words(&[Word(Keyword::New)]),
     }
 }
 
-fn answer_tokens(p: u32, answer: Answer) -> Tokens
-    ensures { result ≡ answer_tokens p answer }
+// What program `pid` is told.
+fn answer_words(pid: u32, answer: Answer) -> Words
+    ensures { result.items ≡ Number pid ∷ answer_words answer }
 {
-    let head = Token::Num(p as u64);
-    let end = Token::End;
+    let program = Number(pid as u64);
     match answer {
-        Answer::Done => Tokens {
-            head,
-            a: Token::Note(Note::Done),
-            b: end,
-            c: end,
-            d: end,
-        },
-        Answer::No(n) => Tokens {
-            head,
-            a: Token::Note(Note::No),
-            b: Token::Num(n as u64),
-            c: end,
-            d: end,
-        },
-        Answer::Pid(n) => Tokens {
-            head,
-            a: Token::Note(Note::Pid),
-            b: Token::Num(n as u64),
-            c: end,
-            d: end,
-        },
-        Answer::Ended(n, code) => Tokens {
-            head,
-            a: Token::Note(Note::Ended),
-            b: Token::Num(n as u64),
-            c: Token::Num(code as u64),
-            d: end,
-        },
-        Answer::Handle(n) => Tokens {
-            head,
-            a: Token::Note(Note::Handle),
-            b: Token::Num(n as u64),
-            c: end,
-            d: end,
-        },
-        Answer::Word(x) => Tokens {
-            head,
-            a: Token::Note(Note::Word),
-            b: Token::Num(x),
-            c: end,
-            d: end,
-        },
+        Answer::Done => words(&[program, Word(Keyword::Done)]),
+        Answer::No(n) => words(&[program, Word(Keyword::No), Number(n as u64)]),
+        Answer::Pid(n) => words(&[program, Word(Keyword::Pid), Number(n as u64)]),
+        Answer::Ended(n, code) => words(&[
+            program,
+            Word(Keyword::Ended),
+            Number(n as u64),
+            Number(code as u64),
+        ]),
+        Answer::Handle(n) => words(&[program, Word(Keyword::Handle), Number(n as u64)]),
+        Answer::Word(x) => words(&[program, Word(Keyword::Word), Number(x)]),
     }
 }
 
-pub fn report_tokens(r: Report) -> Tokens
-    ensures { result ≡ report_tokens r }
+pub fn report_words(report: Report) -> Words
+    ensures { result.items ≡ report_words report }
 {
-    let end = Token::End;
-    match r {
-        Report::Told(p, answer) => answer_tokens(p, answer),
-        Report::Shown(place, x) => Tokens {
-            head: Token::Note(Note::Screen),
-            a: Token::Num(place),
-            b: Token::Num(x),
-            c: end,
-            d: end,
-        },
-        Report::Began(p) => Tokens {
-            head: Token::Note(Note::Begin),
-            a: Token::Num(p as u64),
-            b: end,
-            c: end,
-            d: end,
-        },
-        Report::Stopped(p) => Tokens {
-            head: Token::Note(Note::Stop),
-            a: Token::Num(p as u64),
-            b: end,
-            c: end,
-            d: end,
-        },
-        Report::Busy(p) => Tokens {
-            head: Token::Num(p as u64),
-            a: Token::Note(Note::Busy),
-            b: end,
-            c: end,
-            d: end,
-        },
-        Report::Gone(p) => Tokens {
-            head: Token::Num(p as u64),
-            a: Token::Note(Note::Gone),
-            b: end,
-            c: end,
-            d: end,
-        },
-        Report::Wrong(n) => Tokens {
-            head: Token::Note(Note::Line),
-            a: Token::Asked(n),
-            b: end,
-            c: end,
-            d: end,
-        },
-        Report::GaveUp => Tokens {
-            head: Token::Order(Order::On),
-            a: Token::Note(Note::Gave),
-            b: Token::Note(Note::Up),
-            c: end,
-            d: end,
-        },
+    match report {
+        Report::Told(pid, answer) => answer_words(pid, answer),
+        Report::Shown(place, x) => words(&[Word(Keyword::Screen), Number(place), Number(x)]),
+        Report::Began(pid) => words(&[Word(Keyword::Begin), Number(pid as u64)]),
+        Report::Stopped(pid) => words(&[Word(Keyword::Stop), Number(pid as u64)]),
+        Report::Busy(pid) => words(&[Number(pid as u64), Word(Keyword::Busy)]),
+        Report::Gone(pid) => words(&[Number(pid as u64), Word(Keyword::Gone)]),
+        Report::Wrong(n) => words(&[Word(Keyword::Line), Asked(n)]),
+        Report::GaveUp => words(&[Word(Keyword::On), Word(Keyword::Gave), Word(Keyword::Up)]),
     }
 }

@@ -1,13 +1,8 @@
-use Rattle.std.proofs.Common.{is_ok, sym, refl, ap, ◌∙◌}
 use Rattle.heal.specs.Kernel.{first_of}
-use Rattle.heal.specs.Journal.{viewed, own}
-use Rattle.heal.proofs.Atomics.{stood, does_sound, does_viewed, does_atomic, ok_is}
-use Rattle.heal.proofs.Steps.{atomic_did, did_and}
+use Rattle.heal.proofs.Telling.{told_by_kernel}
 use Rattle.heal.proofs.asks.peek.Goals as goal
 
 pub returns : goal.returns
 returns g c =
     let k = g.K.Desk.kern c.args.k.now in
-    let d = c.peek.ensures.1 in
-    did_and 1 k _ _ _ c.peek.result _ _ (λ x e h. (ok_is x (first_of (k.box k.at)) (sym e ∙ c.peek.ensures.0 (ap is_ok e)), h))
-    (atomic_did 1 k (viewed k) (g.K.Desk.kern c.peek.new.self) _ _ _ c.peek.result c.requires.able.stands refl refl (λ a i. i) (does_sound d c.requires.able.sound c.requires.able.sound) (λ e. ap (λ κ. own κ 0) (stood d e).1 ∙ c.requires.able.settled) (does_atomic (does_viewed (viewed k) d refl) refl))
+    told_by_kernel (first_of (k.box k.at)) c.peek.result c.requires.able c.peek.ensures.0 c.peek.ensures.1

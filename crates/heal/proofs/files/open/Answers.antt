@@ -1,391 +1,116 @@
-use Rattle.std.proofs.Common.{◌≡◌, ℕ, true, ◌⊎◌, [], ◌∷◌, Some, None, sym, refl, ap, ◌∙◌, subst, inl, inr, ⊎_elim, arith}
+use Rattle.std.proofs.Common.{◌≡◌, ℕ, ◌+◌, ◌*◌, ◌<◌, Bool, true, cond, eqb, ◌⊎◌, [], ◌∷◌, Some, None, sym, refl, ap, ◌∙◌, subst, inl, inr, arith}
+use Rattle.std.proofs.lemmas.Bool.Decides.{nat_tests as tests}
 use Rattle.heal.specs.declared.Call.TheVariants.{Open}
-use Rattle.heal.specs.declared.Answer.TheVariants.{No, Handle}
+use Rattle.heal.specs.declared.decision.Refusal.TheVariants.{NoSuchName, MissingFile, FileInUse, NoHandleLeft}
 use Rattle.heal.specs.Kernel.{server_of}
-use Rattle.heal.specs.Journal.{viewed}
-use Rattle.heal.specs.Files.{hand_at, size_at, users_at}
-use Rattle.heal.specs.Deciding.{Decided, Lowest}
-use Rattle.heal.specs.Turn.{cells}
-use Rattle.heal.proofs.Steps.{able, after_then, after_none, did_ok, same_cells, same_box, read_read}
-use Rattle.heal.proofs.Finishing.{chosen_exact, chosen_from}
-use Rattle.heal.proofs.Serving.{at_one, users_few}
+use Rattle.heal.specs.Files.{size_at, users_at}
+use Rattle.heal.specs.Handles.{Lowest, Names, OpenedBy, users_word}
 use Rattle.heal.proofs.Deciders.{open_1, open_2, open_8, open_13, open_yes, open_have}
+use Rattle.heal.proofs.Looking.{file_cells, looks, looked, found, users_are, missing_is, there_is, handed, users_bound, seat, ends_by, ends_refused, ends}
 use Rattle.heal.proofs.files.open.Goals as goal
+use Rattle.heal.proofs.files.open.Goals.{else-is_none-via-then-is_none+else-not-writes, else-is_none-via-else-is_none}
 
-there : (x : ℕ) → (y : mathlib.Core.Bool.Bool) → server_of (Open x y) ≡ 1
+there : (n : ℕ) (w : Bool) → server_of (Open n w) ≡ 1
 unfolding server_of
-there _ _ = refl
+there n w = refl
 
-pub returns-then-n-ge64 : goal.returns-then-n-ge64
-returns-then-n-ge64 g c =
-    let K = g.K.Desk.kern in
-    let S = g.K.Desk.seen in
-    let k0 = K c.args.k.now in
-    let s0 = S c.args.k.now in
-    let one = at_one c.args.p (Open c.args.n c.args.w) (viewed k0) c.requires.stand (there c.args.n c.args.w) in
-    did_ok 0 10 k0 k0 s0 s0 c.refuse.result _ (omega arith) (after_none k0 s0 10 c.requires.able) (chosen_from c.args.p (Open c.args.n c.args.w) c.refuse.result (No 1) ([]) (viewed k0) s0 c.refuse.ensures c.requires.stand (open_1 c.args.p (viewed k0) s0 one c.requires.stand.small c.args.n c.args.w c.requires.stand c.if-n-ge64.true), refl)
+few : (w : Bool) (u v : ℕ) → v ≡ cond w 1 (cond (eqb u 0) 2 (u + 1)) → u < 1000 → v < 18446744073709551616
+few w u v e h = grind (arith, tests)
 
-pub returns-then-is_missing : goal.returns-then-is_missing
-returns-then-is_missing g c =
-    let K = g.K.Desk.kern in
-    let S = g.K.Desk.seen in
-    let k0 = K c.args.k.now in
-    let s0 = S c.args.k.now in
-    let k1 = K c.read_far.new.k in
-    let s1 = S c.read_far.new.k in
-    let r1 = c.in_ok-size.ensures in
-    let x1 = r1.gives _ refl in
-    let A1 = r1.after in
-    let E1 = x1.1 in
-    let Q1 = same_cells k0 k1 s0 s1 E1 in
-    let one = at_one c.args.p (Open c.args.n c.args.w) (viewed k0) c.requires.stand (there c.args.n c.args.w) in
-    let z : (viewed k0).cell 1 (size_at c.args.n) ≡ c.in_ok-size.size = subst (λ σ. (viewed k0).cell σ (size_at c.args.n) ≡ c.in_ok-size.size) one (sym x1.0) in
-    let y = c.is_missing.ensures.yes c.if-is_missing.true in
-    did_ok 1 10 k0 k1 s0 s1 c.refuse-then-is_missing.result _ (omega arith) A1 (chosen_exact c.args.p (Open c.args.n c.args.w) c.refuse-then-is_missing.result (viewed k0) k1 s0 s1 E1 (chosen_from c.args.p (Open c.args.n c.args.w) c.refuse-then-is_missing.result (No 2) ([]) (viewed k0) s0 c.refuse-then-is_missing.ensures c.requires.stand (open_2 c.args.p (viewed k0) s0 one c.requires.stand.small c.args.n c.args.w c.requires.stand c.if-n-ge64.false (z ∙ y.0) y.1)), same_box k0 k1 s0 s1 E1)
+pub returns-in_err-name : goal.returns-in_err-name
+returns-in_err-name g c =
+    let L0 = looks (there c.args.name c.args.writes) c.requires.able c.requires.stand in
+    let n = subst (Names c.args.name) c.in_err-name.ensures.ok_part c.new.ensures in
+    ends_by L0 NoSuchName c.from_residual.result c.from_residual.ensures.1 (handed c.in_err-name.ensures.value c.in_err-name.ensures.ok_part) (open_1 c.args.p _ _ L0.one L0.stand.small c.args.name c.args.writes L0.stand n) (omega arith)
 
-pub returns-then-clashes : goal.returns-then-clashes
-returns-then-clashes g c =
-    let K = g.K.Desk.kern in
-    let S = g.K.Desk.seen in
-    let k0 = K c.args.k.now in
-    let s0 = S c.args.k.now in
-    let k1 = K c.read_far.new.k in
-    let s1 = S c.read_far.new.k in
-    let r1 = c.in_ok-size.ensures in
-    let x1 = r1.gives _ refl in
-    let A1 = r1.after in
-    let E1 = x1.1 in
-    let Q1 = same_cells k0 k1 s0 s1 E1 in
-    let k2 = K c.read_far-2.new.k in
-    let s2 = S c.read_far-2.new.k in
-    let r2 = c.in_ok-users.ensures in
-    let x2 = r2.gives _ refl in
-    let A2 = after_then 1 1 k0 k1 k2 s0 s1 s2 true A1 r2.after in
-    let E2 = read_read k0 k1 k2 s0 s1 s2 E1 x2.1 in
-    let Q2 = same_cells k0 k2 s0 s2 E2 in
-    let one = at_one c.args.p (Open c.args.n c.args.w) (viewed k0) c.requires.stand (there c.args.n c.args.w) in
-    let z : (viewed k0).cell 1 (size_at c.args.n) ≡ c.in_ok-size.size = subst (λ σ. (viewed k0).cell σ (size_at c.args.n) ≡ c.in_ok-size.size) one (sym x1.0) in
-    let u : (viewed k0).cell 1 (users_at c.args.n) ≡ c.in_ok-users.users = subst (λ σ. (viewed k0).cell σ (users_at c.args.n) ≡ c.in_ok-users.users) one (sym (x2.0 ∙ ap (λ f. f (users_at c.args.n)) Q1)) in
-    let nm : ((viewed k0).cell 1 (size_at c.args.n) ≡ 0 → ⊥) ⊎ (c.args.w ≡ true) = ⊎_elim (λ (e : c.in_ok-size.size ≡ 0 → ⊥). inl (λ f. e (sym z ∙ f))) (λ (e : c.args.w ≡ true). inr e) (c.is_missing.ensures.no c.if-is_missing.false) in
-    let y = c.clashes.ensures.yes c.if-clashes.true in
-    did_ok 2 10 k0 k2 s0 s2 c.refuse-then-clashes.result _ (omega arith) A2 (chosen_exact c.args.p (Open c.args.n c.args.w) c.refuse-then-clashes.result (viewed k0) k2 s0 s2 E2 (chosen_from c.args.p (Open c.args.n c.args.w) c.refuse-then-clashes.result (No 8) ([]) (viewed k0) s0 c.refuse-then-clashes.ensures c.requires.stand (open_8 c.args.p (viewed k0) s0 one c.requires.stand.small c.args.n c.args.w c.requires.stand c.if-n-ge64.false nm (⊎_elim (λ e. inl (e.0, (λ f. e.1 (sym u ∙ f)))) (λ e. inr (e.0, u ∙ e.1)) y))), same_box k0 k2 s0 s2 E2)
+pub returns-then-not-writes : goal.returns-then-not-writes
+returns-then-not-writes g c =
+    let L0 = looks (there c.args.name c.args.writes) c.requires.able c.requires.stand in
+    let L1 = looked L0 c.in_ok-length.ensures in
+    let n = subst (Names c.args.name) c.in_ok-name.ensures.ok_part c.new.ensures in
+    ends_refused L1 MissingFile (open_2 c.args.p _ _ L0.one L0.stand.small c.args.name c.args.writes L0.stand n.0 (missing_is L0 c.in_ok-length.ensures n.1 c.is_none.ensures c.if-is_none.true) c.if-not-writes.true) (omega arith)
 
-pub lowest_empty-requires : goal.lowest_empty-requires
-lowest_empty-requires g c =
-    let K = g.K.Desk.kern in
-    let S = g.K.Desk.seen in
-    let k0 = K c.args.k.now in
-    let s0 = S c.args.k.now in
-    let k1 = K c.read_far.new.k in
-    let s1 = S c.read_far.new.k in
-    let r1 = c.in_ok-size.ensures in
-    let x1 = r1.gives _ refl in
-    let A1 = r1.after in
-    let E1 = x1.1 in
-    let Q1 = same_cells k0 k1 s0 s1 E1 in
-    let k2 = K c.read_far-2.new.k in
-    let s2 = S c.read_far-2.new.k in
-    let r2 = c.in_ok-users.ensures in
-    let x2 = r2.gives _ refl in
-    let A2 = after_then 1 1 k0 k1 k2 s0 s1 s2 true A1 r2.after in
-    let E2 = read_read k0 k1 k2 s0 s1 s2 E1 x2.1 in
-    let Q2 = same_cells k0 k2 s0 s2 E2 in
-    let one = at_one c.args.p (Open c.args.n c.args.w) (viewed k0) c.requires.stand (there c.args.n c.args.w) in
-    let z : (viewed k0).cell 1 (size_at c.args.n) ≡ c.in_ok-size.size = subst (λ σ. (viewed k0).cell σ (size_at c.args.n) ≡ c.in_ok-size.size) one (sym x1.0) in
-    let u : (viewed k0).cell 1 (users_at c.args.n) ≡ c.in_ok-users.users = subst (λ σ. (viewed k0).cell σ (users_at c.args.n) ≡ c.in_ok-users.users) one (sym (x2.0 ∙ ap (λ f. f (users_at c.args.n)) Q1)) in
-    let nm : ((viewed k0).cell 1 (size_at c.args.n) ≡ 0 → ⊥) ⊎ (c.args.w ≡ true) = ⊎_elim (λ (e : c.in_ok-size.size ≡ 0 → ⊥). inl (λ f. e (sym z ∙ f))) (λ (e : c.args.w ≡ true). inr e) (c.is_missing.ensures.no c.if-is_missing.false) in
-    record { able = able 2 10 k0 k2 s0 s2 c.requires.able A2 8 (omega arith); one = A2.seat ∙ one; small = c.requires.stand.small }
+pub opened-requires-clause-few : goal.opened-requires-clause-few
+opened-requires-clause-few g c =
+    let L0 = looks (there c.args.name c.args.writes) c.requires.able c.requires.stand in
+    let n = subst (Names c.args.name) c.in_ok-name.ensures.ok_part c.new.ensures in
+    let L1 = looked L0 c.in_ok-length.ensures in
+    let u = users_are L1 c.in_ok-users_of.ensures n.1 in
+    omega (arith, users_bound L0 c.args.name n.0, u)
 
-pub returns-in-None : goal.returns-in-None
-returns-in-None g c =
-    let K = g.K.Desk.kern in
-    let S = g.K.Desk.seen in
-    let k0 = K c.args.k.now in
-    let s0 = S c.args.k.now in
-    let k1 = K c.read_far.new.k in
-    let s1 = S c.read_far.new.k in
-    let r1 = c.in_ok-size.ensures in
-    let x1 = r1.gives _ refl in
-    let A1 = r1.after in
-    let E1 = x1.1 in
-    let Q1 = same_cells k0 k1 s0 s1 E1 in
-    let k2 = K c.read_far-2.new.k in
-    let s2 = S c.read_far-2.new.k in
-    let r2 = c.in_ok-users.ensures in
-    let x2 = r2.gives _ refl in
-    let A2 = after_then 1 1 k0 k1 k2 s0 s1 s2 true A1 r2.after in
-    let E2 = read_read k0 k1 k2 s0 s1 s2 E1 x2.1 in
-    let Q2 = same_cells k0 k2 s0 s2 E2 in
-    let k3 = K c.lowest_empty.new.k in
-    let s3 = S c.lowest_empty.new.k in
-    let r3 = c.in_ok-lowest_empty.ensures in
-    let x3 = r3.gives _ refl in
-    let A3 = after_then 2 8 k0 k2 k3 s0 s2 s3 true A2 r3.after in
-    let E3 = read_read k0 k2 k3 s0 s2 s3 E2 x3.1 in
-    let Q3 = same_cells k0 k3 s0 s3 E3 in
-    let one = at_one c.args.p (Open c.args.n c.args.w) (viewed k0) c.requires.stand (there c.args.n c.args.w) in
-    let z : (viewed k0).cell 1 (size_at c.args.n) ≡ c.in_ok-size.size = subst (λ σ. (viewed k0).cell σ (size_at c.args.n) ≡ c.in_ok-size.size) one (sym x1.0) in
-    let u : (viewed k0).cell 1 (users_at c.args.n) ≡ c.in_ok-users.users = subst (λ σ. (viewed k0).cell σ (users_at c.args.n) ≡ c.in_ok-users.users) one (sym (x2.0 ∙ ap (λ f. f (users_at c.args.n)) Q1)) in
-    let nc = c.clashes.ensures.no c.if-clashes.false in
-    let nm : ((viewed k0).cell 1 (size_at c.args.n) ≡ 0 → ⊥) ⊎ (c.args.w ≡ true) = ⊎_elim (λ (e : c.in_ok-size.size ≡ 0 → ⊥). inl (λ f. e (sym z ∙ f))) (λ (e : c.args.w ≡ true). inr e) (c.is_missing.ensures.no c.if-is_missing.false) in
-    let L0 : Lowest c.args.p (cells k2) (None) = subst (Lowest c.args.p (cells k2)) c.in-None.is x3.0 in
-    let L1 = subst (λ d. Lowest c.args.p d (None)) Q2 L0 in
-    let L = subst (λ σ. Lowest c.args.p ((viewed k0).cell σ) (None)) one L1 in
-    did_ok 10 10 k0 k3 s0 s3 c.refuse-in-None.result _ (omega arith) A3 (chosen_exact c.args.p (Open c.args.n c.args.w) c.refuse-in-None.result (viewed k0) k3 s0 s3 E3 (chosen_from c.args.p (Open c.args.n c.args.w) c.refuse-in-None.result (No 13) ([]) (viewed k0) s0 c.refuse-in-None.ensures c.requires.stand (open_13 c.args.p (viewed k0) s0 one c.requires.stand.small c.args.n c.args.w c.requires.stand c.if-n-ge64.false nm (⊎_elim (λ e. inl (e.0, u ∙ e.1)) (λ e. inr (e.0, (λ f. e.1 (sym u ∙ f)))) nc) L)), same_box k0 k3 s0 s3 E3)
+pub returns-in_err-users : goal.returns-in_err-users
+returns-in_err-users g c =
+    let L0 = looks (there c.args.name c.args.writes) c.requires.able c.requires.stand in
+    let L1 = looked L0 c.in_ok-length.ensures in
+    let L2 = looked L1 c.in_ok-users_of.ensures in
+    let n = subst (Names c.args.name) c.in_ok-name.ensures.ok_part c.new.ensures in
+    let u = users_are L1 c.in_ok-users_of.ensures n.1 in
+    let a : (file_cells (g.K.Desk.kern c.args.k.now) (size_at c.args.name) ≡ 0 → ⊥) ⊎ (c.args.writes ≡ true) = elim c.else-is_none.branch [ else-is_none-via-then-is_none+else-not-writes b ↦ inr b.if-not-writes.false | else-is_none-via-else-is_none b ↦ inl (there_is L0 c.in_ok-length.ensures n.1 c.is_none.ensures b.if-is_none.false) ] in
+    let o = subst (OpenedBy c.args.writes (users_word c.in_ok-users_of.field-0)) c.in_err-users.ensures.ok_part c.opened.ensures in
+    ends_by L2 FileInUse c.from_residual-in_err-users.result c.from_residual-in_err-users.ensures.1 (handed c.in_err-users.ensures.value c.in_err-users.ensures.ok_part)
+    (open_8 c.args.p _ _ L0.one L0.stand.small c.args.name c.args.writes L0.stand n.0 a (subst (λ v. OpenedBy c.args.writes v None) (sym u) o)) (omega arith)
 
-pub overflow_add-p-in-Some : goal.overflow_add-p-in-Some
-overflow_add-p-in-Some g c =
-    let K = g.K.Desk.kern in
-    let S = g.K.Desk.seen in
-    let k0 = K c.args.k.now in
-    let s0 = S c.args.k.now in
-    let k1 = K c.read_far.new.k in
-    let s1 = S c.read_far.new.k in
-    let r1 = c.in_ok-size.ensures in
-    let x1 = r1.gives _ refl in
-    let A1 = r1.after in
-    let E1 = x1.1 in
-    let Q1 = same_cells k0 k1 s0 s1 E1 in
-    let k2 = K c.read_far-2.new.k in
-    let s2 = S c.read_far-2.new.k in
-    let r2 = c.in_ok-users.ensures in
-    let x2 = r2.gives _ refl in
-    let A2 = after_then 1 1 k0 k1 k2 s0 s1 s2 true A1 r2.after in
-    let E2 = read_read k0 k1 k2 s0 s1 s2 E1 x2.1 in
-    let Q2 = same_cells k0 k2 s0 s2 E2 in
-    let k3 = K c.lowest_empty.new.k in
-    let s3 = S c.lowest_empty.new.k in
-    let r3 = c.in_ok-lowest_empty.ensures in
-    let x3 = r3.gives _ refl in
-    let A3 = after_then 2 8 k0 k2 k3 s0 s2 s3 true A2 r3.after in
-    let E3 = read_read k0 k2 k3 s0 s2 s3 E2 x3.1 in
-    let Q3 = same_cells k0 k3 s0 s3 E3 in
-    let one = at_one c.args.p (Open c.args.n c.args.w) (viewed k0) c.requires.stand (there c.args.n c.args.w) in
-    let z : (viewed k0).cell 1 (size_at c.args.n) ≡ c.in_ok-size.size = subst (λ σ. (viewed k0).cell σ (size_at c.args.n) ≡ c.in_ok-size.size) one (sym x1.0) in
-    let u : (viewed k0).cell 1 (users_at c.args.n) ≡ c.in_ok-users.users = subst (λ σ. (viewed k0).cell σ (users_at c.args.n) ≡ c.in_ok-users.users) one (sym (x2.0 ∙ ap (λ f. f (users_at c.args.n)) Q1)) in
-    let nc = c.clashes.ensures.no c.if-clashes.false in
-    let L0 : Lowest c.args.p (cells k2) (Some c.in-Some.e) = subst (Lowest c.args.p (cells k2)) c.in-Some.is x3.0 in
-    let L1 = subst (λ d. Lowest c.args.p d (Some c.in-Some.e)) Q2 L0 in
-    let L = subst (λ σ. Lowest c.args.p ((viewed k0).cell σ) (Some c.in-Some.e)) one L1 in
-    omega (arith, L.0, c.requires.stand.small)
+pub lowest_empty-requires-clause-one : goal.lowest_empty-requires-clause-one
+lowest_empty-requires-clause-one g c =
+    let L0 = looks (there c.args.name c.args.writes) c.requires.able c.requires.stand in
+    let L1 = looked L0 c.in_ok-length.ensures in
+    seat (looked L1 c.in_ok-users_of.ensures)
 
-pub users_opened-requires : goal.users_opened-requires
-users_opened-requires g c =
-    let K = g.K.Desk.kern in
-    let S = g.K.Desk.seen in
-    let k0 = K c.args.k.now in
-    let s0 = S c.args.k.now in
-    let k1 = K c.read_far.new.k in
-    let s1 = S c.read_far.new.k in
-    let r1 = c.in_ok-size.ensures in
-    let x1 = r1.gives _ refl in
-    let A1 = r1.after in
-    let E1 = x1.1 in
-    let Q1 = same_cells k0 k1 s0 s1 E1 in
-    let k2 = K c.read_far-2.new.k in
-    let s2 = S c.read_far-2.new.k in
-    let r2 = c.in_ok-users.ensures in
-    let x2 = r2.gives _ refl in
-    let A2 = after_then 1 1 k0 k1 k2 s0 s1 s2 true A1 r2.after in
-    let E2 = read_read k0 k1 k2 s0 s1 s2 E1 x2.1 in
-    let Q2 = same_cells k0 k2 s0 s2 E2 in
-    let k3 = K c.lowest_empty.new.k in
-    let s3 = S c.lowest_empty.new.k in
-    let r3 = c.in_ok-lowest_empty.ensures in
-    let x3 = r3.gives _ refl in
-    let A3 = after_then 2 8 k0 k2 k3 s0 s2 s3 true A2 r3.after in
-    let E3 = read_read k0 k2 k3 s0 s2 s3 E2 x3.1 in
-    let Q3 = same_cells k0 k3 s0 s3 E3 in
-    let one = at_one c.args.p (Open c.args.n c.args.w) (viewed k0) c.requires.stand (there c.args.n c.args.w) in
-    let z : (viewed k0).cell 1 (size_at c.args.n) ≡ c.in_ok-size.size = subst (λ σ. (viewed k0).cell σ (size_at c.args.n) ≡ c.in_ok-size.size) one (sym x1.0) in
-    let u : (viewed k0).cell 1 (users_at c.args.n) ≡ c.in_ok-users.users = subst (λ σ. (viewed k0).cell σ (users_at c.args.n) ≡ c.in_ok-users.users) one (sym (x2.0 ∙ ap (λ f. f (users_at c.args.n)) Q1)) in
-    let nc = c.clashes.ensures.no c.if-clashes.false in
-    let uf = users_few c.args.n k0 s0 one c.if-n-ge64.false c.requires.able.inv in
-    let v = x2.0 ∙ ap (λ f. f (users_at c.args.n)) Q1 in
-    omega arith
+pub returns-in_err-handle : goal.returns-in_err-handle
+returns-in_err-handle g c =
+    let L0 = looks (there c.args.name c.args.writes) c.requires.able c.requires.stand in
+    let L1 = looked L0 c.in_ok-length.ensures in
+    let L2 = looked L1 c.in_ok-users_of.ensures in
+    let L3 = looked L2 c.in_ok-lowest_empty.ensures in
+    let n = subst (Names c.args.name) c.in_ok-name.ensures.ok_part c.new.ensures in
+    let u = users_are L1 c.in_ok-users_of.ensures n.1 in
+    let a : (file_cells (g.K.Desk.kern c.args.k.now) (size_at c.args.name) ≡ 0 → ⊥) ⊎ (c.args.writes ≡ true) = elim c.else-is_none.branch [ else-is_none-via-then-is_none+else-not-writes b ↦ inr b.if-not-writes.false | else-is_none-via-else-is_none b ↦ inl (there_is L0 c.in_ok-length.ensures n.1 c.is_none.ensures b.if-is_none.false) ] in
+    let o = subst (OpenedBy c.args.writes (users_word c.in_ok-users_of.field-0)) c.in_ok-users.ensures.ok_part c.opened.ensures in
+    let e = found L2 (Lowest c.args.p) c.in_ok-lowest_empty.ensures c.in_err-handle.ensures.ok_part in
+    ends_by L3 NoHandleLeft c.from_residual-in_err-handle.result c.from_residual-in_err-handle.ensures.1 (handed c.in_err-handle.ensures.value c.in_err-handle.ensures.ok_part)
+    (open_13 c.args.p _ _ L0.one L0.stand.small c.args.name c.args.writes L0.stand n.0 a (subst (λ v. OpenedBy c.args.writes v (Some c.in_ok-users.users)) (sym u) o).0 e) (omega arith)
 
-pub returns-then-size-eq0 : goal.returns-then-size-eq0
-returns-then-size-eq0 g c =
-    let K = g.K.Desk.kern in
-    let S = g.K.Desk.seen in
-    let k0 = K c.args.k.now in
-    let s0 = S c.args.k.now in
-    let k1 = K c.read_far.new.k in
-    let s1 = S c.read_far.new.k in
-    let r1 = c.in_ok-size.ensures in
-    let x1 = r1.gives _ refl in
-    let A1 = r1.after in
-    let E1 = x1.1 in
-    let Q1 = same_cells k0 k1 s0 s1 E1 in
-    let k2 = K c.read_far-2.new.k in
-    let s2 = S c.read_far-2.new.k in
-    let r2 = c.in_ok-users.ensures in
-    let x2 = r2.gives _ refl in
-    let A2 = after_then 1 1 k0 k1 k2 s0 s1 s2 true A1 r2.after in
-    let E2 = read_read k0 k1 k2 s0 s1 s2 E1 x2.1 in
-    let Q2 = same_cells k0 k2 s0 s2 E2 in
-    let k3 = K c.lowest_empty.new.k in
-    let s3 = S c.lowest_empty.new.k in
-    let r3 = c.in_ok-lowest_empty.ensures in
-    let x3 = r3.gives _ refl in
-    let A3 = after_then 2 8 k0 k2 k3 s0 s2 s3 true A2 r3.after in
-    let E3 = read_read k0 k2 k3 s0 s2 s3 E2 x3.1 in
-    let Q3 = same_cells k0 k3 s0 s3 E3 in
-    let one = at_one c.args.p (Open c.args.n c.args.w) (viewed k0) c.requires.stand (there c.args.n c.args.w) in
-    let z : (viewed k0).cell 1 (size_at c.args.n) ≡ c.in_ok-size.size = subst (λ σ. (viewed k0).cell σ (size_at c.args.n) ≡ c.in_ok-size.size) one (sym x1.0) in
-    let u : (viewed k0).cell 1 (users_at c.args.n) ≡ c.in_ok-users.users = subst (λ σ. (viewed k0).cell σ (users_at c.args.n) ≡ c.in_ok-users.users) one (sym (x2.0 ∙ ap (λ f. f (users_at c.args.n)) Q1)) in
-    let nc = c.clashes.ensures.no c.if-clashes.false in
-    let L0 : Lowest c.args.p (cells k2) (Some c.in-Some.e) = subst (Lowest c.args.p (cells k2)) c.in-Some.is x3.0 in
-    let L1 = subst (λ d. Lowest c.args.p d (Some c.in-Some.e)) Q2 L0 in
-    let L = subst (λ σ. Lowest c.args.p ((viewed k0).cell σ) (Some c.in-Some.e)) one L1 in
-    let d0 = open_yes c.args.p (viewed k0) s0 one c.requires.stand.small c.args.n c.args.w c.in-Some.e c.in_ok-users.users 0 c.requires.stand c.if-n-ge64.false u (z ∙ c.if-size-eq0.true) (⊎_elim (λ e. absurd (e c.if-size-eq0.true)) (λ e. inr e) (c.is_missing.ensures.no c.if-is_missing.false)) nc L.0 L.1 L.2 in
-    let d1 = subst (λ ps. Decided c.args.p (Open c.args.n c.args.w) (Handle c.in-Some.e) ps (viewed k0) s0) (λ i. (hand_at c.args.p c.in-Some.e, sym c.hand_word.ensures i) ∷ (users_at c.args.n, sym c.users_opened.ensures i) ∷ (size_at c.args.n, 1) ∷ []) d0 in
-    did_ok 10 10 k0 k3 s0 s3 c.write_three.result _ (omega arith) A3 (chosen_exact c.args.p (Open c.args.n c.args.w) c.write_three.result (viewed k0) k3 s0 s3 E3 (chosen_from c.args.p (Open c.args.n c.args.w) c.write_three.result (Handle c.in-Some.e) ((hand_at c.args.p c.in-Some.e, c.hand_word.result) ∷ (users_at c.args.n, c.users_opened.result) ∷ (size_at c.args.n, 1) ∷ []) (viewed k0) s0 c.write_three.ensures c.requires.stand (d1)), same_box k0 k3 s0 s3 E3)
+pub handle_cell-requires-clause-there : goal.handle_cell-requires-clause-there
+handle_cell-requires-clause-there g c =
+    let L0 = looks (there c.args.name c.args.writes) c.requires.able c.requires.stand in
+    let L1 = looked L0 c.in_ok-length.ensures in
+    let L2 = looked L1 c.in_ok-users_of.ensures in
+    (found L2 (Lowest c.args.p) c.in_ok-lowest_empty.ensures c.in_ok-handle.ensures.ok_part).0
 
-pub returns-else-size-eq0 : goal.returns-else-size-eq0
-returns-else-size-eq0 g c =
-    let K = g.K.Desk.kern in
-    let S = g.K.Desk.seen in
-    let k0 = K c.args.k.now in
-    let s0 = S c.args.k.now in
-    let k1 = K c.read_far.new.k in
-    let s1 = S c.read_far.new.k in
-    let r1 = c.in_ok-size.ensures in
-    let x1 = r1.gives _ refl in
-    let A1 = r1.after in
-    let E1 = x1.1 in
-    let Q1 = same_cells k0 k1 s0 s1 E1 in
-    let k2 = K c.read_far-2.new.k in
-    let s2 = S c.read_far-2.new.k in
-    let r2 = c.in_ok-users.ensures in
-    let x2 = r2.gives _ refl in
-    let A2 = after_then 1 1 k0 k1 k2 s0 s1 s2 true A1 r2.after in
-    let E2 = read_read k0 k1 k2 s0 s1 s2 E1 x2.1 in
-    let Q2 = same_cells k0 k2 s0 s2 E2 in
-    let k3 = K c.lowest_empty.new.k in
-    let s3 = S c.lowest_empty.new.k in
-    let r3 = c.in_ok-lowest_empty.ensures in
-    let x3 = r3.gives _ refl in
-    let A3 = after_then 2 8 k0 k2 k3 s0 s2 s3 true A2 r3.after in
-    let E3 = read_read k0 k2 k3 s0 s2 s3 E2 x3.1 in
-    let Q3 = same_cells k0 k3 s0 s3 E3 in
-    let one = at_one c.args.p (Open c.args.n c.args.w) (viewed k0) c.requires.stand (there c.args.n c.args.w) in
-    let z : (viewed k0).cell 1 (size_at c.args.n) ≡ c.in_ok-size.size = subst (λ σ. (viewed k0).cell σ (size_at c.args.n) ≡ c.in_ok-size.size) one (sym x1.0) in
-    let u : (viewed k0).cell 1 (users_at c.args.n) ≡ c.in_ok-users.users = subst (λ σ. (viewed k0).cell σ (users_at c.args.n) ≡ c.in_ok-users.users) one (sym (x2.0 ∙ ap (λ f. f (users_at c.args.n)) Q1)) in
-    let nc = c.clashes.ensures.no c.if-clashes.false in
-    let L0 : Lowest c.args.p (cells k2) (Some c.in-Some.e) = subst (Lowest c.args.p (cells k2)) c.in-Some.is x3.0 in
-    let L1 = subst (λ d. Lowest c.args.p d (Some c.in-Some.e)) Q2 L0 in
-    let L = subst (λ σ. Lowest c.args.p ((viewed k0).cell σ) (Some c.in-Some.e)) one L1 in
-    let d0 = open_have c.args.p (viewed k0) s0 one c.requires.stand.small c.args.n c.args.w c.in-Some.e c.in_ok-users.users c.in_ok-size.size c.requires.stand c.if-n-ge64.false u z c.if-size-eq0.false nc L.0 L.1 L.2 in
-    let d1 = subst (λ ps. Decided c.args.p (Open c.args.n c.args.w) (Handle c.in-Some.e) ps (viewed k0) s0) (λ i. (hand_at c.args.p c.in-Some.e, sym c.hand_word-in-Some.ensures i) ∷ (users_at c.args.n, sym c.users_opened-in-Some.ensures i) ∷ []) d0 in
-    did_ok 10 10 k0 k3 s0 s3 c.write_two.result _ (omega arith) A3 (chosen_exact c.args.p (Open c.args.n c.args.w) c.write_two.result (viewed k0) k3 s0 s3 E3 (chosen_from c.args.p (Open c.args.n c.args.w) c.write_two.result (Handle c.in-Some.e) ((hand_at c.args.p c.in-Some.e, c.hand_word-in-Some.result) ∷ (users_at c.args.n, c.users_opened-in-Some.result) ∷ []) (viewed k0) s0 c.write_two.ensures c.requires.stand (d1)), same_box k0 k3 s0 s3 E3)
+pub word-requires : goal.word-requires
+word-requires g c =
+    let L0 = looks (there c.args.name c.args.writes) c.requires.able c.requires.stand in
+    let n = subst (Names c.args.name) c.in_ok-name.ensures.ok_part c.new.ensures in
+    let L1 = looked L0 c.in_ok-length.ensures in
+    let u = users_are L1 c.in_ok-users_of.ensures n.1 in
+    let o = subst (OpenedBy c.args.writes (users_word c.in_ok-users_of.field-0)) c.in_ok-users.ensures.ok_part c.opened.ensures in
+    few c.args.writes _ _ o.1 (omega (arith, users_bound L0 c.args.name n.0, u))
 
-pub overflow_add-p-then-size-eq0 : goal.overflow_add-p-then-size-eq0
-overflow_add-p-then-size-eq0 g c =
-    let K = g.K.Desk.kern in
-    let S = g.K.Desk.seen in
-    let k0 = K c.args.k.now in
-    let s0 = S c.args.k.now in
-    let k1 = K c.read_far.new.k in
-    let s1 = S c.read_far.new.k in
-    let r1 = c.in_ok-size.ensures in
-    let x1 = r1.gives _ refl in
-    let A1 = r1.after in
-    let E1 = x1.1 in
-    let Q1 = same_cells k0 k1 s0 s1 E1 in
-    let k2 = K c.read_far-2.new.k in
-    let s2 = S c.read_far-2.new.k in
-    let r2 = c.in_ok-users.ensures in
-    let x2 = r2.gives _ refl in
-    let A2 = after_then 1 1 k0 k1 k2 s0 s1 s2 true A1 r2.after in
-    let E2 = read_read k0 k1 k2 s0 s1 s2 E1 x2.1 in
-    let Q2 = same_cells k0 k2 s0 s2 E2 in
-    let k3 = K c.lowest_empty.new.k in
-    let s3 = S c.lowest_empty.new.k in
-    let r3 = c.in_ok-lowest_empty.ensures in
-    let x3 = r3.gives _ refl in
-    let A3 = after_then 2 8 k0 k2 k3 s0 s2 s3 true A2 r3.after in
-    let E3 = read_read k0 k2 k3 s0 s2 s3 E2 x3.1 in
-    let Q3 = same_cells k0 k3 s0 s3 E3 in
-    let one = at_one c.args.p (Open c.args.n c.args.w) (viewed k0) c.requires.stand (there c.args.n c.args.w) in
-    let z : (viewed k0).cell 1 (size_at c.args.n) ≡ c.in_ok-size.size = subst (λ σ. (viewed k0).cell σ (size_at c.args.n) ≡ c.in_ok-size.size) one (sym x1.0) in
-    let u : (viewed k0).cell 1 (users_at c.args.n) ≡ c.in_ok-users.users = subst (λ σ. (viewed k0).cell σ (users_at c.args.n) ≡ c.in_ok-users.users) one (sym (x2.0 ∙ ap (λ f. f (users_at c.args.n)) Q1)) in
-    let nc = c.clashes.ensures.no c.if-clashes.false in
-    let L0 : Lowest c.args.p (cells k2) (Some c.in-Some.e) = subst (Lowest c.args.p (cells k2)) c.in-Some.is x3.0 in
-    let L1 = subst (λ d. Lowest c.args.p d (Some c.in-Some.e)) Q2 L0 in
-    let L = subst (λ σ. Lowest c.args.p ((viewed k0).cell σ) (Some c.in-Some.e)) one L1 in
-    omega (arith, L.0, c.requires.stand.small)
+pub returns-then-is_none-2 : goal.returns-then-is_none-2
+returns-then-is_none-2 g c =
+    let L0 = looks (there c.args.name c.args.writes) c.requires.able c.requires.stand in
+    let L1 = looked L0 c.in_ok-length.ensures in
+    let L2 = looked L1 c.in_ok-users_of.ensures in
+    let L3 = looked L2 c.in_ok-lowest_empty.ensures in
+    let n = subst (Names c.args.name) c.in_ok-name.ensures.ok_part c.new.ensures in
+    let u = users_are L1 c.in_ok-users_of.ensures n.1 in
+    let w : c.args.writes ≡ true = elim c.else-is_none.branch [ else-is_none-via-then-is_none+else-not-writes b ↦ b.if-not-writes.false | else-is_none-via-else-is_none b ↦ absurd (there_is L0 c.in_ok-length.ensures n.1 c.is_none.ensures b.if-is_none.false (missing_is L0 c.in_ok-length.ensures n.1 c.is_none-2.ensures c.if-is_none-2.true)) ] in
+    let o = subst (OpenedBy c.args.writes (users_word c.in_ok-users_of.field-0)) c.in_ok-users.ensures.ok_part c.opened.ensures in
+    let e = found L2 (Lowest c.args.p) c.in_ok-lowest_empty.ensures c.in_ok-handle.ensures.ok_part in
+    ends L3 c.new-then-is_none-2.ensures.answer
+    (c.new-then-is_none-2.ensures.writes ∙ (λ i. (c.handle_cell.ensures i, (c.into.ensures ∙ ap (λ m. 1 + 2 * m + cond c.args.writes 1 0) n.1) i) ∷ ((c.users_cell.ensures ∙ ap users_at n.1) i, (c.word.ensures ∙ o.1) i) ∷ ((c.size_cell.ensures ∙ ap size_at n.1) i, c.size_word.ensures i) ∷ []))
+    (open_yes c.args.p _ _ L0.one L0.stand.small c.args.name c.args.writes c.in_ok-handle.handle _ 0 L0.stand n.0 u (missing_is L0 c.in_ok-length.ensures n.1 c.is_none-2.ensures c.if-is_none-2.true) (inr w) o.0 e.0 e.1 e.2) (omega arith)
 
-pub overflow_add-p-in-Some-2 : goal.overflow_add-p-in-Some-2
-overflow_add-p-in-Some-2 g c =
-    let K = g.K.Desk.kern in
-    let S = g.K.Desk.seen in
-    let k0 = K c.args.k.now in
-    let s0 = S c.args.k.now in
-    let k1 = K c.read_far.new.k in
-    let s1 = S c.read_far.new.k in
-    let r1 = c.in_ok-size.ensures in
-    let x1 = r1.gives _ refl in
-    let A1 = r1.after in
-    let E1 = x1.1 in
-    let Q1 = same_cells k0 k1 s0 s1 E1 in
-    let k2 = K c.read_far-2.new.k in
-    let s2 = S c.read_far-2.new.k in
-    let r2 = c.in_ok-users.ensures in
-    let x2 = r2.gives _ refl in
-    let A2 = after_then 1 1 k0 k1 k2 s0 s1 s2 true A1 r2.after in
-    let E2 = read_read k0 k1 k2 s0 s1 s2 E1 x2.1 in
-    let Q2 = same_cells k0 k2 s0 s2 E2 in
-    let k3 = K c.lowest_empty.new.k in
-    let s3 = S c.lowest_empty.new.k in
-    let r3 = c.in_ok-lowest_empty.ensures in
-    let x3 = r3.gives _ refl in
-    let A3 = after_then 2 8 k0 k2 k3 s0 s2 s3 true A2 r3.after in
-    let E3 = read_read k0 k2 k3 s0 s2 s3 E2 x3.1 in
-    let Q3 = same_cells k0 k3 s0 s3 E3 in
-    let one = at_one c.args.p (Open c.args.n c.args.w) (viewed k0) c.requires.stand (there c.args.n c.args.w) in
-    let z : (viewed k0).cell 1 (size_at c.args.n) ≡ c.in_ok-size.size = subst (λ σ. (viewed k0).cell σ (size_at c.args.n) ≡ c.in_ok-size.size) one (sym x1.0) in
-    let u : (viewed k0).cell 1 (users_at c.args.n) ≡ c.in_ok-users.users = subst (λ σ. (viewed k0).cell σ (users_at c.args.n) ≡ c.in_ok-users.users) one (sym (x2.0 ∙ ap (λ f. f (users_at c.args.n)) Q1)) in
-    let nc = c.clashes.ensures.no c.if-clashes.false in
-    let L0 : Lowest c.args.p (cells k2) (Some c.in-Some.e) = subst (Lowest c.args.p (cells k2)) c.in-Some.is x3.0 in
-    let L1 = subst (λ d. Lowest c.args.p d (Some c.in-Some.e)) Q2 L0 in
-    let L = subst (λ σ. Lowest c.args.p ((viewed k0).cell σ) (Some c.in-Some.e)) one L1 in
-    omega (arith, L.0, c.requires.stand.small)
-
-pub users_opened-requires-in-Some : goal.users_opened-requires-in-Some
-users_opened-requires-in-Some g c =
-    let K = g.K.Desk.kern in
-    let S = g.K.Desk.seen in
-    let k0 = K c.args.k.now in
-    let s0 = S c.args.k.now in
-    let k1 = K c.read_far.new.k in
-    let s1 = S c.read_far.new.k in
-    let r1 = c.in_ok-size.ensures in
-    let x1 = r1.gives _ refl in
-    let A1 = r1.after in
-    let E1 = x1.1 in
-    let Q1 = same_cells k0 k1 s0 s1 E1 in
-    let k2 = K c.read_far-2.new.k in
-    let s2 = S c.read_far-2.new.k in
-    let r2 = c.in_ok-users.ensures in
-    let x2 = r2.gives _ refl in
-    let A2 = after_then 1 1 k0 k1 k2 s0 s1 s2 true A1 r2.after in
-    let E2 = read_read k0 k1 k2 s0 s1 s2 E1 x2.1 in
-    let Q2 = same_cells k0 k2 s0 s2 E2 in
-    let k3 = K c.lowest_empty.new.k in
-    let s3 = S c.lowest_empty.new.k in
-    let r3 = c.in_ok-lowest_empty.ensures in
-    let x3 = r3.gives _ refl in
-    let A3 = after_then 2 8 k0 k2 k3 s0 s2 s3 true A2 r3.after in
-    let E3 = read_read k0 k2 k3 s0 s2 s3 E2 x3.1 in
-    let Q3 = same_cells k0 k3 s0 s3 E3 in
-    let one = at_one c.args.p (Open c.args.n c.args.w) (viewed k0) c.requires.stand (there c.args.n c.args.w) in
-    let z : (viewed k0).cell 1 (size_at c.args.n) ≡ c.in_ok-size.size = subst (λ σ. (viewed k0).cell σ (size_at c.args.n) ≡ c.in_ok-size.size) one (sym x1.0) in
-    let u : (viewed k0).cell 1 (users_at c.args.n) ≡ c.in_ok-users.users = subst (λ σ. (viewed k0).cell σ (users_at c.args.n) ≡ c.in_ok-users.users) one (sym (x2.0 ∙ ap (λ f. f (users_at c.args.n)) Q1)) in
-    let nc = c.clashes.ensures.no c.if-clashes.false in
-    let L0 : Lowest c.args.p (cells k2) (Some c.in-Some.e) = subst (Lowest c.args.p (cells k2)) c.in-Some.is x3.0 in
-    let L1 = subst (λ d. Lowest c.args.p d (Some c.in-Some.e)) Q2 L0 in
-    let L = subst (λ σ. Lowest c.args.p ((viewed k0).cell σ) (Some c.in-Some.e)) one L1 in
-    let uf = users_few c.args.n k0 s0 one c.if-n-ge64.false c.requires.able.inv in
-    let v = x2.0 ∙ ap (λ f. f (users_at c.args.n)) Q1 in
-    omega arith
+pub returns : goal.returns
+returns g c =
+    let L0 = looks (there c.args.name c.args.writes) c.requires.able c.requires.stand in
+    let L1 = looked L0 c.in_ok-length.ensures in
+    let L2 = looked L1 c.in_ok-users_of.ensures in
+    let L3 = looked L2 c.in_ok-lowest_empty.ensures in
+    let n = subst (Names c.args.name) c.in_ok-name.ensures.ok_part c.new.ensures in
+    let u = users_are L1 c.in_ok-users_of.ensures n.1 in
+    let o = subst (OpenedBy c.args.writes (users_word c.in_ok-users_of.field-0)) c.in_ok-users.ensures.ok_part c.opened.ensures in
+    let e = found L2 (Lowest c.args.p) c.in_ok-lowest_empty.ensures c.in_ok-handle.ensures.ok_part in
+    ends L3 c.new-2.ensures.answer
+    (c.new-2.ensures.writes ∙ (λ i. (c.handle_cell.ensures i, (c.into.ensures ∙ ap (λ m. 1 + 2 * m + cond c.args.writes 1 0) n.1) i) ∷ ((c.users_cell.ensures ∙ ap users_at n.1) i, (c.word.ensures ∙ o.1) i) ∷ []))
+    (open_have c.args.p _ _ L0.one L0.stand.small c.args.name c.args.writes c.in_ok-handle.handle _ _ L0.stand n.0 u refl (there_is L0 c.in_ok-length.ensures n.1 c.is_none-2.ensures c.if-is_none-2.false) o.0 e.0 e.1 e.2) (omega arith)

@@ -3,13 +3,9 @@ use mathlib.Core.Bool.{false≢true}
 use Rattle.heal.specs.Kernel.{Kern, Event, Does, cells_of, set}
 use Rattle.heal.specs.Journal.{Sound, own}
 use Rattle.heal.specs.declared.Down.{Down}
-use Rattle.heal.proofs.Cells.{Applies, applies, fine_few, set_here}
-use Rattle.heal.proofs.Atomics.{At, at_start, at_get, at_put, at_left, at_there, lost_get, lost_put, end_same, more, not_ok, ok_is, sound_own, cells_many, cells_few}
+use Rattle.heal.proofs.Cells.{Applies, applies, set_here}
+use Rattle.heal.proofs.Atomics.{At, at_start, at_get, at_put, at_left, at_there, lost_get, lost_put, end_same, more, not_ok, ok_is, sound_own, sound_few, cells_many, cells_few}
 use Rattle.heal.proofs.journal.apply.Goals as goal
-
--- how many entries there are
-few : (m : ℕ) (k : Kern) → Sound k → own k 0 ≡ m + 1 → m < 8
-few m k h e = fine_few k.at m (own k) (sound_own k h) e
 
 -- both reads
 module _ (m : ℕ) (k : Kern) (es : List Event) (h : Sound k) (e : own k 0 ≡ m + 1) (x : ℕ) (k1 : Kern) (es1 : List Event) (dx : Does k k es es true k1 es1) (ex : ◌≡◌ {A = Result ℕ Down} (Ok x) (Ok (own k (2 * m + 1)))) where
@@ -31,24 +27,6 @@ module _ (m : ℕ) (k : Kern) (es : List Event) (h : Sound k) (e : own k 0 ≡ m
     unfolding one
     facts = applies k.at m x y (own k) e (sound_own k h) x-is (ok_is y (own k1 (2 * m + 2)) ey ∙ ap (λ f. f (2 * m + 2)) one.cells)
 
-pub overflow_mul-m : goal.overflow_mul-m
-overflow_mul-m g c = let h = few c.args.m (g.K.Desk.kern c.args.k.now) c.requires.sound c.requires.count in search rules
-
-pub overflow_add-m : goal.overflow_add-m
-overflow_add-m g c = let h = few c.args.m (g.K.Desk.kern c.args.k.now) c.requires.sound c.requires.count in search rules
-
-pub overflow_mul-m-2 : goal.overflow_mul-m-2
-overflow_mul-m-2 g c = let h = few c.args.m (g.K.Desk.kern c.args.k.now) c.requires.sound c.requires.count in search rules
-
-pub overflow_add-m-2 : goal.overflow_add-m-2
-overflow_add-m-2 g c = let h = few c.args.m (g.K.Desk.kern c.args.k.now) c.requires.sound c.requires.count in search rules
-
-pub get-requires : goal.get-requires
-get-requires g c =
-    let h = few c.args.m (g.K.Desk.kern c.args.k.now) c.requires.sound c.requires.count in
-    let i = cells_many (g.K.Desk.kern c.args.k.now).at in
-    (omega (arith, c.requires.some), omega arith)
-
 pub returns-in_err-cell : goal.returns-in_err-cell
 returns-in_err-cell g c =
     let no = not_ok c.from_residual.result c.from_residual.ensures.0 in
@@ -67,7 +45,7 @@ overflow_add-cell g c =
 
 pub get-requires-2 : goal.get-requires-2
 get-requires-2 g c =
-    let h = few c.args.m (g.K.Desk.kern c.args.k.now) c.requires.sound c.requires.count in
+    let h = sound_few (g.K.Desk.kern c.args.k.now) c.requires.sound in
     let i = cells_many (g.K.Desk.kern c.get.new.self).at in
     let a = one _ _ _ c.requires.sound c.requires.count c.in_ok-cell.field-0 _ _ c.in_ok-cell.ensures.1 (c.in_ok-cell.ensures.0 refl) in
     (omega (arith, c.requires.some, at_left a), omega arith)

@@ -1,147 +1,57 @@
-use Rattle.std.proofs.Common.{◌≡◌, ◌+◌, true, [], ◌∷◌, sym, refl, ap, ◌∙◌, subst, arith}
+use Rattle.std.proofs.Common.{◌≡◌, None, Some, sym, refl, ap, ◌∙◌, arith}
 use Rattle.heal.specs.declared.Call.TheVariants.{Hear}
-use Rattle.heal.specs.declared.Answer.TheVariants.{No, Word}
-use Rattle.heal.specs.Kernel.{server_of, key_at}
+use Rattle.heal.specs.Kernel.{key_at}
 use Rattle.heal.specs.Journal.{viewed}
-use Rattle.heal.proofs.Steps.{able, after_then, did_ok, same_cells, same_box, read_read}
-use Rattle.heal.proofs.Finishing.{chosen_exact, chosen_from}
-use Rattle.heal.proofs.Serving.{counts_fit, at_two}
-use Rattle.heal.proofs.Deciders.{hear_no9, hear_waits, hear_done}
+use Rattle.heal.proofs.Steps.{able, after_then, same_cell}
+use Rattle.heal.proofs.Ending.{looked, look_then, or_err, fell, passes, ends}
+use Rattle.heal.proofs.Serving.{at_desk, counts_fit, desk_cell, desk_not_own}
+use Rattle.heal.proofs.Deciders.{hears, hear_waits, hear_done}
 use Rattle.heal.proofs.screen.hear.Goals as goal
 
-there : server_of (Hear) ≡ 2
-unfolding server_of
-there = refl
+pub returns-in_err-ensure_owner : goal.returns-in_err-ensure_owner
+returns-in_err-ensure_owner g c = desk_not_own c.args.p hears c.requires.stand _ c.in_err-ensure_owner.ensures c.from_residual.result c.from_residual.ensures.1 (omega arith)
 
-pub returns-then-owner-p : goal.returns-then-owner-p
-returns-then-owner-p g c =
-    let K = g.K.Desk.kern in
-    let S = g.K.Desk.seen in
-    let k0 = K c.args.k.now in
-    let s0 = S c.args.k.now in
-    let k1 = K c.read.new.k in
-    let s1 = S c.read.new.k in
-    let r1 = c.in_ok-owner.ensures in
-    let x1 = r1.gives _ refl in
-    let A1 = r1.after in
-    let E1 = x1.1 in
-    let Q1 = same_cells k0 k1 s0 s1 E1 in
-    let two = at_two c.args.p (Hear) (viewed k0) c.requires.stand (there) in
-    let o : (viewed k0).cell 2 52 ≡ c.in_ok-owner.owner = subst (λ σ. (viewed k0).cell σ 52 ≡ c.in_ok-owner.owner) two (sym x1.0) in
-    did_ok 1 3 k0 k1 s0 s1 c.refuse.result _ (omega arith) A1 (chosen_exact c.args.p (Hear) c.refuse.result (viewed k0) k1 s0 s1 E1 (chosen_from c.args.p (Hear) c.refuse.result (No 9) ([]) (viewed k0) s0 c.refuse.ensures c.requires.stand (hear_no9 c.args.p (viewed k0) s0 two c.requires.stand (λ e. c.if-owner-p.true (sym o ∙ e)))), same_box k0 k1 s0 s1 E1)
+pub read-requires-clause-able : goal.read-requires-clause-able
+read-requires-clause-able g c = able c.requires.able c.in_ok-ensure_owner.ensures.0.after 1 (omega arith)
+
+pub returns-in_err-heard : goal.returns-in_err-heard
+returns-in_err-heard g c = fell c.args.p Hear c.from_residual-in_err-heard.result c.from_residual-in_err-heard.ensures.1 (after_then c.in_ok-ensure_owner.ensures.0.after c.in_err-heard.ensures.after) (omega arith)
 
 pub key-requires : goal.key-requires
 key-requires g c =
-    let K = g.K.Desk.kern in
-    let S = g.K.Desk.seen in
-    let k0 = K c.args.k.now in
-    let s0 = S c.args.k.now in
-    let k1 = K c.read.new.k in
-    let s1 = S c.read.new.k in
-    let r1 = c.in_ok-owner.ensures in
-    let x1 = r1.gives _ refl in
-    let A1 = r1.after in
-    let E1 = x1.1 in
-    let Q1 = same_cells k0 k1 s0 s1 E1 in
-    let k2 = K c.read-2.new.k in
-    let s2 = S c.read-2.new.k in
-    let r2 = c.in_ok-n.ensures in
-    let x2 = r2.gives _ refl in
-    let A2 = after_then 1 1 k0 k1 k2 s0 s1 s2 true A1 r2.after in
-    let E2 = read_read k0 k1 k2 s0 s1 s2 E1 x2.1 in
-    let Q2 = same_cells k0 k2 s0 s2 E2 in
-    let two = at_two c.args.p (Hear) (viewed k0) c.requires.stand (there) in
-    record { able = able 2 3 k0 k2 s0 s2 c.requires.able A2 1 (omega arith); two = A2.seat ∙ two }
+    let a = after_then c.in_ok-ensure_owner.ensures.0.after c.in_ok-heard.ensures.after in
+    record { able = able c.requires.able a 1 (omega arith); two = a.seat ∙ at_desk (g.K.Desk.kern c.args.k.now) hears c.requires.stand }
 
-pub overflow_add-n : goal.overflow_add-n
-overflow_add-n g c =
-    let K = g.K.Desk.kern in
-    let S = g.K.Desk.seen in
-    let k0 = K c.args.k.now in
-    let s0 = S c.args.k.now in
-    let k1 = K c.read.new.k in
-    let s1 = S c.read.new.k in
-    let r1 = c.in_ok-owner.ensures in
-    let x1 = r1.gives _ refl in
-    let A1 = r1.after in
-    let E1 = x1.1 in
-    let Q1 = same_cells k0 k1 s0 s1 E1 in
-    let k2 = K c.read-2.new.k in
-    let s2 = S c.read-2.new.k in
-    let r2 = c.in_ok-n.ensures in
-    let x2 = r2.gives _ refl in
-    let A2 = after_then 1 1 k0 k1 k2 s0 s1 s2 true A1 r2.after in
-    let E2 = read_read k0 k1 k2 s0 s1 s2 E1 x2.1 in
-    let Q2 = same_cells k0 k2 s0 s2 E2 in
-    let two = at_two c.args.p (Hear) (viewed k0) c.requires.stand (there) in
-    let w = counts_fit c.args.p Hear k0 s0 two c.requires.stand c.requires.able.inv in
-    let v = x2.0 ∙ ap (λ f. f 54) Q1 in
+pub returns-in_err-key : goal.returns-in_err-key
+returns-in_err-key g c = fell c.args.p Hear c.from_residual-in_err-key.result c.from_residual-in_err-key.ensures.1 (after_then (after_then c.in_ok-ensure_owner.ensures.0.after c.in_ok-heard.ensures.after) c.in_err-key.ensures.after) (omega arith)
+
+pub returns-in_err-word : goal.returns-in_err-word
+returns-in_err-word g c =
+    let k0 = g.K.Desk.kern c.args.k.now in
+    let z = c.requires.stand in
+    let two = at_desk k0 hears z in
+    let d = c.in_ok-ensure_owner.ensures in
+    let s = look_then d.0 (looked c.in_ok-heard.ensures) in
+    let o = or_err c.in_ok-key.field-0 c.in_err-word.ensures.value in
+    let n : (viewed k0).cell 2 54 ≡ c.in_ok-heard.heard = desk_cell k0 54 two ∙ sym ((c.in_ok-heard.ensures.gives _ refl).0 ∙ same_cell k0 d.0.same 54) in
+    let none : key_at ((viewed k0).cell 2 54) k0.keys ≡ None = ap (λ n. key_at n k0.keys) n ∙ (ap (λ κ. key_at c.in_ok-heard.heard κ.keys) (sym s.same.is) ∙ (sym (c.in_ok-key.ensures.gives _ refl).0 ∙ o.0)) in
+    passes c.args.p Hear c.from_residual-in_err-word.result c.from_residual-in_err-word.ensures.1 o.1 (look_then s (looked c.in_ok-key.ensures)) (z, hear_waits c.args.p (viewed k0) _ two z (desk_cell k0 52 two ∙ d.1) none) (omega arith)
+
+pub overflow_add-heard : goal.overflow_add-heard
+overflow_add-heard g c =
+    let k0 = g.K.Desk.kern c.args.k.now in
+    let z = c.requires.stand in
+    let w = counts_fit k0 (at_desk k0 hears z) z c.requires.able in
+    let v = (c.in_ok-heard.ensures.gives _ refl).0 ∙ same_cell k0 c.in_ok-ensure_owner.ensures.0.same 54 in
     omega (arith, w.1, v)
 
-pub returns-in-None : goal.returns-in-None
-returns-in-None g c =
-    let K = g.K.Desk.kern in
-    let S = g.K.Desk.seen in
-    let k0 = K c.args.k.now in
-    let s0 = S c.args.k.now in
-    let k1 = K c.read.new.k in
-    let s1 = S c.read.new.k in
-    let r1 = c.in_ok-owner.ensures in
-    let x1 = r1.gives _ refl in
-    let A1 = r1.after in
-    let E1 = x1.1 in
-    let Q1 = same_cells k0 k1 s0 s1 E1 in
-    let k2 = K c.read-2.new.k in
-    let s2 = S c.read-2.new.k in
-    let r2 = c.in_ok-n.ensures in
-    let x2 = r2.gives _ refl in
-    let A2 = after_then 1 1 k0 k1 k2 s0 s1 s2 true A1 r2.after in
-    let E2 = read_read k0 k1 k2 s0 s1 s2 E1 x2.1 in
-    let Q2 = same_cells k0 k2 s0 s2 E2 in
-    let k3 = K c.key.new.k in
-    let s3 = S c.key.new.k in
-    let r3 = c.in_ok-key.ensures in
-    let x3 = r3.gives _ refl in
-    let A3 = after_then 2 1 k0 k2 k3 s0 s2 s3 true A2 r3.after in
-    let E3 = read_read k0 k2 k3 s0 s2 s3 E2 x3.1 in
-    let Q3 = same_cells k0 k3 s0 s3 E3 in
-    let two = at_two c.args.p (Hear) (viewed k0) c.requires.stand (there) in
-    let o : (viewed k0).cell 2 52 ≡ c.in_ok-owner.owner = subst (λ σ. (viewed k0).cell σ 52 ≡ c.in_ok-owner.owner) two (sym x1.0) in
-    let h : (viewed k0).cell 2 54 ≡ c.in_ok-n.n = subst (λ σ. (viewed k0).cell σ 54 ≡ c.in_ok-n.n) two (sym (x2.0 ∙ ap (λ f. f 54) Q1)) in
-    let ks : k2.keys ≡ k0.keys = ap (λ κ. κ.keys) E2.is in
-    let ky : key_at c.in_ok-n.n k0.keys ≡ c.in_ok-key.field-0 = ap (key_at c.in_ok-n.n) (sym ks) ∙ sym x3.0 in
-    did_ok 3 3 k0 k3 s0 s3 _ _ (omega arith) A3 (chosen_exact c.args.p Hear Rattle.heal.specs.declared.decision.Decision.TheVariants.Pass (viewed k0) k3 s0 s3 E3 (c.requires.stand, hear_waits c.args.p (viewed k0) s0 two c.requires.stand (o ∙ c.if-owner-p.false) (ap (λ n. key_at n k0.keys) h ∙ (ky ∙ c.in-None.is))), same_box k0 k3 s0 s3 E3)
-
-pub returns-in-Some : goal.returns-in-Some
-returns-in-Some g c =
-    let K = g.K.Desk.kern in
-    let S = g.K.Desk.seen in
-    let k0 = K c.args.k.now in
-    let s0 = S c.args.k.now in
-    let k1 = K c.read.new.k in
-    let s1 = S c.read.new.k in
-    let r1 = c.in_ok-owner.ensures in
-    let x1 = r1.gives _ refl in
-    let A1 = r1.after in
-    let E1 = x1.1 in
-    let Q1 = same_cells k0 k1 s0 s1 E1 in
-    let k2 = K c.read-2.new.k in
-    let s2 = S c.read-2.new.k in
-    let r2 = c.in_ok-n.ensures in
-    let x2 = r2.gives _ refl in
-    let A2 = after_then 1 1 k0 k1 k2 s0 s1 s2 true A1 r2.after in
-    let E2 = read_read k0 k1 k2 s0 s1 s2 E1 x2.1 in
-    let Q2 = same_cells k0 k2 s0 s2 E2 in
-    let k3 = K c.key.new.k in
-    let s3 = S c.key.new.k in
-    let r3 = c.in_ok-key.ensures in
-    let x3 = r3.gives _ refl in
-    let A3 = after_then 2 1 k0 k2 k3 s0 s2 s3 true A2 r3.after in
-    let E3 = read_read k0 k2 k3 s0 s2 s3 E2 x3.1 in
-    let Q3 = same_cells k0 k3 s0 s3 E3 in
-    let two = at_two c.args.p (Hear) (viewed k0) c.requires.stand (there) in
-    let o : (viewed k0).cell 2 52 ≡ c.in_ok-owner.owner = subst (λ σ. (viewed k0).cell σ 52 ≡ c.in_ok-owner.owner) two (sym x1.0) in
-    let h : (viewed k0).cell 2 54 ≡ c.in_ok-n.n = subst (λ σ. (viewed k0).cell σ 54 ≡ c.in_ok-n.n) two (sym (x2.0 ∙ ap (λ f. f 54) Q1)) in
-    let ks : k2.keys ≡ k0.keys = ap (λ κ. κ.keys) E2.is in
-    let ky : key_at c.in_ok-n.n k0.keys ≡ c.in_ok-key.field-0 = ap (key_at c.in_ok-n.n) (sym ks) ∙ sym x3.0 in
-    did_ok 3 3 k0 k3 s0 s3 c.write_one.result _ (omega arith) A3 (chosen_exact c.args.p (Hear) c.write_one.result (viewed k0) k3 s0 s3 E3 (chosen_from c.args.p (Hear) c.write_one.result (Word c.in-Some.x) ((54, c.in_ok-n.n + 1) ∷ []) (viewed k0) s0 c.write_one.ensures c.requires.stand (hear_done c.args.p (viewed k0) s0 two c.in_ok-n.n c.in-Some.x c.requires.stand (o ∙ c.if-owner-p.false) h (ky ∙ c.in-Some.is))), same_box k0 k3 s0 s3 E3)
+pub returns : goal.returns
+returns g c =
+    let k0 = g.K.Desk.kern c.args.k.now in
+    let z = c.requires.stand in
+    let two = at_desk k0 hears z in
+    let d = c.in_ok-ensure_owner.ensures in
+    let s = look_then d.0 (looked c.in_ok-heard.ensures) in
+    let n : (viewed k0).cell 2 54 ≡ c.in_ok-heard.heard = desk_cell k0 54 two ∙ sym ((c.in_ok-heard.ensures.gives _ refl).0 ∙ same_cell k0 d.0.same 54) in
+    let key : key_at c.in_ok-heard.heard k0.keys ≡ Some c.in_ok-word.word = ap (λ κ. key_at c.in_ok-heard.heard κ.keys) (sym s.same.is) ∙ (sym (c.in_ok-key.ensures.gives _ refl).0 ∙ c.in_ok-word.ensures.ok_part) in
+    ends c.args.p Hear c.new.ensures.answer c.new.ensures.writes (look_then s (looked c.in_ok-key.ensures)) z (hear_done c.args.p (viewed k0) _ two c.in_ok-heard.heard c.in_ok-word.word z (desk_cell k0 52 two ∙ d.1) n key) (omega arith)

@@ -1,50 +1,34 @@
-use Rattle.std.proofs.Common.{◌≡◌, [], ◌∷◌, sym, refl, ◌∙◌, subst, inl, inr, ⊎_elim, arith}
+use Rattle.std.proofs.Common.{◌≡◌, ◌⊎◌, sym, refl, ◌∙◌, inl, inr, arith}
 use Rattle.heal.specs.declared.Call.TheVariants.{Take}
-use Rattle.heal.specs.declared.Answer.TheVariants.{Done, No}
+use Rattle.heal.specs.declared.decision.Refusal.TheVariants.{DeskNotOwn}
 use Rattle.heal.specs.Kernel.{server_of}
 use Rattle.heal.specs.Journal.{viewed}
-use Rattle.heal.proofs.Steps.{did_ok, same_cells, same_box}
-use Rattle.heal.proofs.Finishing.{chosen_exact, chosen_from}
-use Rattle.heal.proofs.Serving.{at_two}
+use Rattle.heal.proofs.Ending.{looked, refuses, ends}
+use Rattle.heal.proofs.Serving.{desk_cell}
 use Rattle.heal.proofs.Deciders.{take_no9, take_done}
 use Rattle.heal.proofs.screen.take.Goals as goal
+use Rattle.heal.proofs.screen.take.Goals.{in_default-via-in-Some+else-owner-p, in_default-via-in_default}
 
-there : server_of (Take) ≡ 2
+there : server_of Take ≡ 2
 unfolding server_of
 there = refl
 
-pub returns-then-is_taken : goal.returns-then-is_taken
-returns-then-is_taken g c =
-    let K = g.K.Desk.kern in
-    let S = g.K.Desk.seen in
-    let k0 = K c.args.k.now in
-    let s0 = S c.args.k.now in
-    let k1 = K c.read.new.k in
-    let s1 = S c.read.new.k in
-    let r1 = c.in_ok-owner.ensures in
-    let x1 = r1.gives _ refl in
-    let A1 = r1.after in
-    let E1 = x1.1 in
-    let Q1 = same_cells k0 k1 s0 s1 E1 in
-    let two = at_two c.args.p (Take) (viewed k0) c.requires.stand (there) in
-    let o : (viewed k0).cell 2 52 ≡ c.in_ok-owner.owner = subst (λ σ. (viewed k0).cell σ 52 ≡ c.in_ok-owner.owner) two (sym x1.0) in
-    let y = c.is_taken.ensures.yes c.if-is_taken.true in
-    did_ok 1 1 k0 k1 s0 s1 c.refuse.result _ (omega arith) A1 (chosen_exact c.args.p (Take) c.refuse.result (viewed k0) k1 s0 s1 E1 (chosen_from c.args.p (Take) c.refuse.result (No 9) ([]) (viewed k0) s0 c.refuse.ensures c.requires.stand (take_no9 c.args.p (viewed k0) s0 two c.requires.stand (λ e. y.0 (sym o ∙ e)) (λ e. y.1 (sym o ∙ e)))), same_box k0 k1 s0 s1 E1)
+pub returns-in-Some : goal.returns-in-Some
+returns-in-Some g c =
+    let k0 = g.K.Desk.kern c.args.k.now in
+    let z = c.requires.stand in
+    let two = sym z.here ∙ there in
+    let x = c.in_ok-owner.ensures.gives _ refl in
+    let o = rw c.in-Some.is at x.0 in
+    let w : (viewed k0).cell 2 52 ≡ c.in-Some.owner = desk_cell k0 52 two ∙ o.0 in
+    refuses c.args.p Take DeskNotOwn (looked c.in_ok-owner.ensures) z (take_no9 c.args.p (viewed k0) _ two z (λ e. o.1 (sym w ∙ e)) (λ e. c.if-owner-p.true (sym w ∙ e))) (omega arith)
 
-pub returns : goal.returns
-returns g c =
-    let K = g.K.Desk.kern in
-    let S = g.K.Desk.seen in
-    let k0 = K c.args.k.now in
-    let s0 = S c.args.k.now in
-    let k1 = K c.read.new.k in
-    let s1 = S c.read.new.k in
-    let r1 = c.in_ok-owner.ensures in
-    let x1 = r1.gives _ refl in
-    let A1 = r1.after in
-    let E1 = x1.1 in
-    let Q1 = same_cells k0 k1 s0 s1 E1 in
-    let two = at_two c.args.p (Take) (viewed k0) c.requires.stand (there) in
-    let o : (viewed k0).cell 2 52 ≡ c.in_ok-owner.owner = subst (λ σ. (viewed k0).cell σ 52 ≡ c.in_ok-owner.owner) two (sym x1.0) in
-    let y = c.is_taken.ensures.no c.if-is_taken.false in
-    did_ok 1 1 k0 k1 s0 s1 c.write_one.result _ (omega arith) A1 (chosen_exact c.args.p (Take) c.write_one.result (viewed k0) k1 s0 s1 E1 (chosen_from c.args.p (Take) c.write_one.result (Done) ((52, c.args.p) ∷ []) (viewed k0) s0 c.write_one.ensures c.requires.stand (take_done c.args.p (viewed k0) s0 two c.requires.stand (⊎_elim (λ e. inl (o ∙ e)) (λ e. inr (o ∙ e)) y))), same_box k0 k1 s0 s1 E1)
+pub returns-in_default : goal.returns-in_default
+returns-in_default g c =
+    let k0 = g.K.Desk.kern c.args.k.now in
+    let z = c.requires.stand in
+    let two = sym z.here ∙ there in
+    let x = c.in_ok-owner.ensures.gives _ refl in
+    let d = desk_cell k0 52 two in
+    let free : ((viewed k0).cell 2 52 ≡ 0) ⊎ ((viewed k0).cell 2 52 ≡ c.args.p) = elim c.in_default.branch [ in_default-via-in-Some+else-owner-p w ↦ (let o = rw w.in-Some.is at x.0 in inr (d ∙ (o.0 ∙ w.if-owner-p.false))) | in_default-via-in_default w ↦ (let o = rw w.in_default.is at x.0 in inl (d ∙ o)) ] in
+    ends c.args.p Take c.new.ensures.answer c.new.ensures.writes (looked c.in_ok-owner.ensures) z (take_done c.args.p (viewed k0) _ two z free) (omega arith)

@@ -1,8 +1,7 @@
-use Rattle.script.proofs.Cutting.{named_number, named_word}
+use Rattle.std.proofs.Common.{sym, ◌∙◌}
+use Rattle.script.proofs.Cutting.{keyword_is}
 use Rattle.script.proofs.read.token_of.Goals as goal
 
-pub returns-in-Some : goal.returns-in-Some
-returns-in-Some c = named_number c.args.word.now c.in-Some.n c.in-Some.ensures.0 c.in-Some.ensures.1
-
-pub returns-in-None : goal.returns-in-None
-returns-in-None c = named_word c.args.word.now c.keyword.result c.in-None.ensures c.keyword.ensures
+pub returns-in_ok-keyword_of-in-None : goal.returns-in_ok-keyword_of-in-None
+returns-in_ok-keyword_of-in-None c =
+    (tt, keyword_is c.args.word.now c.in_ok-keyword_of-in-None.field-0 (sym c.keyword_of.ensures ∙ c.in_ok-keyword_of-in-None.was))

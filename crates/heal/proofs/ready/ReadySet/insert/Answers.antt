@@ -1,9 +1,12 @@
-use Rattle.std.proofs.Common.{ap, ◌∙◌}
-use lib.Bits.{bit_or}
-use Rattle.std.proofs.lemmas.Nat.{one_shl}
+use Rattle.std.proofs.Common.{arith, tests, w64}
+use Rattle.std.proofs.lemmas.Nat.Bits.{bit_at_set_same, bit_at_set_other}
 use Rattle.heal.specs.Ready.{has}
-use Rattle.heal.proofs.Sets.{has_insert}
 use Rattle.heal.proofs.ready.ReadySet.insert.Goals as goal
 
 pub returns : goal.returns
-returns c q = ap (λ x. has q (bit_or c.args.self.bits x)) (one_shl c.args.p 64 c.requires) ∙ has_insert c.args.self.bits c.args.p q
+unfolding has
+returns c q =
+    let m = c.args.self.bits in
+    let p = c.args.p in
+    let same = bit_at_set_same w64 m p c.requires in
+    let other = bit_at_set_other w64 m p c.requires q in grind (arith, tests)

@@ -1,5 +1,8 @@
-use Rattle.memory.proofs.Fates.{does}
+use Rattle.std.proofs.Common.{refl, rules}
+use Rattle.memory.proofs.Fates.{as_planned, does, value_is}
 use Rattle.memory.proofs.asks.MachineDesk.get.Goals as goal
 
 pub returns : goal.returns
-returns c = (c.get.ensures.value, does c.get.ensures.planned)
+returns c =
+    let planned = as_planned (λ k. k) (λ k es. es) c.perform.ensures (λ _. refl) (λ _ _. refl) (λ n n' x ready step. search rules) in
+    record { does = (value_is (λ k. k.cell k.at c.args.cell) c.perform.ensures (λ _. refl) (λ n n' x ready step. search rules), does planned.planned); planned = planned }

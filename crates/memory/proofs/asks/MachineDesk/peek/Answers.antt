@@ -1,5 +1,9 @@
-use Rattle.memory.proofs.Fates.{does}
+use Rattle.std.proofs.Common.{refl, rules}
+use Rattle.heal.specs.Kernel.{first_of}
+use Rattle.memory.proofs.Fates.{as_planned, does, value_is}
 use Rattle.memory.proofs.asks.MachineDesk.peek.Goals as goal
 
 pub returns : goal.returns
-returns c = (c.peek.ensures.value, does c.peek.ensures.planned)
+returns c =
+    let planned = as_planned (λ k. k) (λ k es. es) c.perform.ensures (λ _. refl) (λ _ _. refl) (λ n n' x ready step. search rules) in
+    record { does = (value_is (λ k. first_of (k.box k.at)) c.perform.ensures (λ _. refl) (λ n n' x ready step. search rules), does planned.planned); planned = planned }

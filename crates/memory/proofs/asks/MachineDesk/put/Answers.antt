@@ -1,5 +1,9 @@
-use Rattle.memory.proofs.Fates.{does}
+use Rattle.std.proofs.Common.{refl, rules}
+use Rattle.heal.specs.Kernel.{kept}
+use Rattle.memory.proofs.Fates.{as_planned, does}
 use Rattle.memory.proofs.asks.MachineDesk.put.Goals as goal
 
 pub returns : goal.returns
-returns c = does c.put.ensures.planned
+returns c =
+    let planned = as_planned (kept c.args.cell c.args.x) (λ k es. es) c.perform.ensures (λ _. refl) (λ _ _. refl) (λ n n' x ready step. search rules) in
+    record { does = does planned.planned; planned = planned }

@@ -1,13 +1,10 @@
-use Rattle.std.proofs.Common.{refl, rules}
-use Rattle.memory.specs.Memory.{kern_of}
+use Rattle.std.proofs.Common.{◌<◌, length, sym, ap, subst, rules}
+use Rattle.memory.proofs.Arrays.{box_read}
 use Rattle.memory.proofs.Kernels.{put_is}
 use Rattle.memory.proofs.machine.Machine.put_in.Goals as goal
 
-pub returns : goal.returns
-returns c =
-    record {
-      kernel = put_is (kern_of c.args.self.now) c.args.self.now.mail.now c.args.self.now.first c.args.self.now.many c.args.to c.args.m refl (search rules) c.requires.room (search rules);
-      events = refl;
-      unnoted = (refl, refl);
-      aside = (refl, refl, refl, refl, refl, refl, refl);
-    }
+pub push-requires : goal.push-requires
+push-requires c = subst (λ n. n < 512) (sym (ap length (box_read c.args.self.now.mailboxes c.args.to c.index-mailboxes-to.result (search rules)))) c.requires.room
+
+pub returns-clause-changes : goal.returns-clause-changes
+returns-clause-changes c = record { kernel = put_is c.args.self.now c.args.to c.args.m _ _ (search rules) c.push.ensures; events = search rules; aside = search rules }

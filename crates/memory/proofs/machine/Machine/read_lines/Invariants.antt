@@ -1,11 +1,10 @@
 use Rattle.std.proofs.Common.{◌-◌, length}
-use Rattle.heal.specs.Kernel.{Between}
 use Rattle.memory.specs.Lines.{Went}
-use Rattle.memory.specs.Memory.{kern_of, seen_of}
+use Rattle.memory.specs.Beside.{BetweenTurns}
 use Rattle.memory.proofs.machine.Machine.read_lines.Given as goal
 
-abbrev pub invariant-loop : goal.invariant-loop
-invariant-loop l = Between (kern_of l.initial.self) (seen_of l.initial.self) (kern_of l.self) (seen_of l.self) × Went l.initial.self l.self
+abbrev pub invariant-loop-read : goal.invariant-loop-read
+invariant-loop-read l = BetweenTurns l.initial.self l.self × Went l.initial.self l.self
 
-abbrev pub decreases-loop : goal.decreases-loop
-decreases-loop l = length l.self.lines.text.now - l.self.lines.at
+abbrev pub decreases-loop-read : goal.decreases-loop-read
+decreases-loop-read l = length l.self.lines.text.now - l.self.lines.at

@@ -1,8 +1,10 @@
-use Rattle.std.proofs.Common.{[], ◌∷◌, ◌++◌, ap, ◌∙◌}
+use Rattle.std.proofs.Common.{◌≡◌, ap, ◌∙◌}
+use Rattle.script.specs.Text.{report_text}
 use Rattle.script.specs.Words.{spell}
 use Rattle.script.proofs.Spelling.{report_text_lem}
-use Rattle.script.proofs.Writing.{printed_as}
 use Rattle.script.proofs.page.Page.print.Goals as goal
 
-pub returns : goal.returns
-returns c = record { size = c.whole.ensures.size; printed = printed_as c.whole.ensures.printed _ (ap (λ t. spell t ++ 10 ∷ []) c.report_tokens.ensures ∙ ap (λ l. l ++ 10 ∷ []) (report_text_lem _)) }
+pub returns-clause-printed : goal.returns-clause-printed
+returns-clause-printed c =
+    let text : spell c.deref.result.now ≡ report_text c.args.r = ap spell (c.deref.ensures.0 ∙ c.report_words.ensures) ∙ report_text_lem c.args.r in
+    rw text at c.whole.ensures.printed
