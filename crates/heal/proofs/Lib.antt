@@ -21,6 +21,7 @@ pub mod Ending
 pub mod Serving
 pub mod First
 pub mod Storing
+pub mod Numbered
 pub mod Holding
 pub mod Sweeping
 pub mod Advancing

@@ -70,6 +70,21 @@ impl CallKind {
     }
 }
 
+// The same two, of a kind by its number.
+#[tactic(auto, using(crate::proofs::Numbered::kind_has_b))]
+pub fn has_b(kind: u64) -> bool
+    ensures { result ≡ has_b kind }
+{
+    CallKind::from(kind).has_b()
+}
+
+#[tactic(auto, using(crate::proofs::Numbered::kind_has_x))]
+pub fn has_x(kind: u64) -> bool
+    ensures { result ≡ has_x kind }
+{
+    CallKind::from(kind).has_x()
+}
+
 // What an answer tells.
 #[derive(Clone, Copy, PartialEq, Eq)]
 pub enum AnswerKind {

@@ -205,9 +205,11 @@ fn decide<K: Desk>(k: &mut K, p: u32, call: Call) -> Result<Moment, NotDone>
         Call::Leave => screen::leave(k, p),
         Call::Say(x) => screen::say(k, p, x),
         Call::Hear => screen::hear(k, p),
-        Call::Spawn(_) | Call::Exit(_) | Call::Wait | Call::Kill(_) => {
-            Err(NotDone::Refused(Refusal::NotBuilt))
-        }
+        // an arm each, as each is refused by itself
+        Call::Spawn(_) => Err(NotDone::Refused(Refusal::NotBuilt)),
+        Call::Exit(_) => Err(NotDone::Refused(Refusal::NotBuilt)),
+        Call::Wait => Err(NotDone::Refused(Refusal::NotBuilt)),
+        Call::Kill(_) => Err(NotDone::Refused(Refusal::NotBuilt)),
     }
 }
 

@@ -11,9 +11,10 @@ pub(crate) const CAPACITY: usize = 512;
 // A ring, the oldest message first: the kit's ring is on the heap, which there's none of here, and a list would move 512 messages.
 #[derive(Drop)]
 pub struct Mailbox {
-    ring: [Msg; CAPACITY],
-    first: usize,
-    len: usize,
+    pub ring: [Msg; CAPACITY],
+    // where the oldest message is, and how many there are
+    pub first: usize,
+    pub len: usize,
 }
 
 impl Model for Mailbox {

@@ -1,19 +1,21 @@
--- A text is cut at its blanks. Assumes nothing.
-use Rattle.std.proofs.Common.{◌≡◌, ℕ, ◌^◌, ◌<◌, ◌≤◌, Bool, true, false, ◌&&◌, leb, eqb, List, [], ◌∷◌, ◌++◌, map, length, get_or, decimal, cond, Some, None, Option, Result, MatchOption, Bor, sym, refl, ap, ◌∙◌, subst, arith, All}
+-- A text is cut at its blanks, and numbers are read. Assumes nothing.
+use Rattle.std.proofs.Common.{◌≡◌, ℕ, ◌+◌, ◌-◌, ◌*◌, ◌^◌, take, ◌<◌, ◌≤◌, ⊎_elim, Bool, true, false, ◌&&◌, leb, eqb, List, [], ◌∷◌, ◌++◌, map, length, get_or, decimal, cond, Some, None, Option, MatchOption, Bor, sym, refl, ap, ◌∙◌, subst, arith, All}
 use Rattle.std.specs.List.{slice_split, join_with_byte, find, list_all}
-use Rattle.std.specs.Result.{result_ok}
-use Rattle.std.specs.Str.{bytes_eq, IsAscii, IsUtf8}
-use Rattle.std.specs.Str.Parse.{AllDigits, digits_value, ParsesUnsigned}
+use Rattle.std.specs.Int.{IsInRange}
+use Rattle.std.specs.Str.{bytes_eq}
+use Rattle.std.specs.Str.Parse.{AllDigits, digits_value}
 use Rattle.std.proofs.lemmas.Option.{none-some}
 use Rattle.std.proofs.lemmas.Slice.Eq.{bytes_eq-Decides}
-use Rattle.std.proofs.lemmas.Str.{IsUtf8-from_ascii}
-use Rattle.std.proofs.lemmas.List.{length-map, map-append}
-use Rattle.std.proofs.lemmas.Bool.{and_parts, leb-true, ne_eqb, true≢false}
-use Rattle.std.proofs.lemmas.Fmt.{decimal_injective, decimal_nonempty, digits_decimal, parse-decimal, IsAscii-decimal}
+use Rattle.std.proofs.lemmas.Str.{digit_value_digit}
+use Rattle.std.proofs.lemmas.Int.Digits.{digits_value_more, digits_more}
+use Rattle.std.specs.Char.{digit_value}
+use Rattle.std.proofs.lemmas.List.{length-map, map-append, take_all}
+use Rattle.std.proofs.lemmas.Bool.{and_parts, leb-true, ne_eqb, cases_lt}
+use Rattle.std.proofs.lemmas.Fmt.{decimal_injective, decimal_nonempty, first_decimal, length-decimal-le, digits_decimal, digits_value-decimal, decimal-digits_value}
 use Rattle.std.proofs.lemmas.List.Elements.{All-head, All-tail, All-from_get_or, All-map, All-same, All-push}
 use Rattle.std.proofs.lemmas.List.Recursion.{and_at}
 use Rattle.std.proofs.lemmas.List.Splits.{slice_split_none, slice_split_at, length-slice_split, join_with_byte-slice_split}
-use Rattle.std.proofs.lemmas.Str.Parse.{IsNumeralModel, numerals_by_value, tells_digits, digit_at}
+use Rattle.std.proofs.lemmas.Str.Parse.{IsNumeralModel, numerals_by_value, tells_digits, digit_at, digits_value-take-le}
 use Rattle.script.specs.declared.words.Keyword.{Keyword}
 use Rattle.script.specs.declared.words.Keyword.TheVariants as word
 use Rattle.script.specs.declared.words.Token.{Token}
@@ -146,17 +148,38 @@ spell_same ts us h k e = words_same ts us h.each k.each (sym (words_are_pieces t
 pub of_none : {A : Type 0} {P : Type 0} (Q : A → Type 0) {r : Option A} → r ≡ None → P → MatchOption r P Q
 of_none {P = P} Q e p = subst (λ o. MatchOption o P Q) (sym e) p
 
--- what isn't text, or isn't parsed, or isn't what is printed of the number, is no number
-pub not_text : (w : List ℕ) → (IsUtf8 w → ⊥) → (n : ℕ) → n < 2 ^ 64 → w ≡ decimal n → ⊥
-not_text w other n h e = other (IsUtf8-from_ascii w (subst IsAscii (sym e) (IsAscii-decimal n h)))
+-- a number's text is of digits, one or more, with a nought in front only if that's all, and no beginning of it is too large
+module _ (w : List ℕ) (n : ℕ) (small : n < 2 ^ 64) (e : w ≡ decimal n) where
+  pub some_digit : 0 < length w
+  some_digit = omega (arith, ap length e, decimal_nonempty n small)
 
-pub not_parsed : {E : Type 0} (w : List ℕ) (r : Result ℕ E) → ParsesUnsigned 64 10 w r → None ≡ result_ok r → (n : ℕ) → n < 2 ^ 64 → w ≡ decimal n → ⊥
-not_parsed w r p none n h e = none-some n (none ∙ ap result_ok (parse-decimal 64 n w r h h e p))
+  pub each_digit : (i : ℕ) → i < length w → IsInRange 48 57 (get_or w i 0)
+  each_digit i l = digit_at w i (subst (AllDigits 10) (sym e) (digits_decimal own n small)) l
 
-pub not_printed : {E : Type 0} (w : List ℕ) (r : Result ℕ E) (m : ℕ) → ParsesUnsigned 64 10 w r → Some m ≡ result_ok r → bytes_eq (decimal m) w ≡ false → (n : ℕ) → n < 2 ^ 64 → w ≡ decimal n → ⊥
-not_printed w r m p some other n h e =
-    let same : m ≡ n = some_same (some ∙ ap result_ok (parse-decimal 64 n w r h h e p)) in
-    true≢false (sym ((bytes_eq-Decides (decimal m) w).1 (ap decimal same ∙ sym e)) ∙ other)
+  pub no_nought : get_or w 0 0 ≡ 48 → length w ≤ 1
+  no_nought f =
+      ⊎_elim (λ pos. omega (arith, first_decimal n pos small, ap (λ x. get_or x 0 0) e)) (λ z. omega (arith, ap length e, length-decimal-le 1 n (omega arith) (omega arith) small)) (cases_lt 0 n)
+
+  pub fits : (i : ℕ) → digits_value 10 (take i w) < 2 ^ 64
+  fits i = omega (arith, digits_value-take-le 10 w i (omega arith), ap (digits_value 10) e, digits_value-decimal own n small)
+
+-- one digit more
+module _ (w : List ℕ) (i : ℕ) (l : i < length w) (h : IsInRange 48 57 (get_or w i 0)) where
+  value_of_digit : digit_value (get_or w i 0) ≡ get_or w i 0 - 48
+  value_of_digit = omega (arith, digit_value_digit (get_or w i 0) h)
+
+  pub digit_more : AllDigits 10 (take i w) → AllDigits 10 (take (i + 1) w)
+  digit_more d = digits_more 10 w i l d (omega (arith, value_of_digit))
+
+  pub value_more : digits_value 10 (take i w) * 10 + (get_or w i 0 - 48) ≡ digits_value 10 (take (i + 1) w)
+  value_more = ap (λ d. digits_value 10 (take i w) * 10 + d) (sym value_of_digit) ∙ sym (digits_value_more 10 w i l)
+
+-- what is read to the end is the number that is written so
+pub is_number : (w : List ℕ) (n : ℕ) → n ≡ digits_value 10 (take (length w) w) → AllDigits 10 (take (length w) w) → 0 < length w → n < 2 ^ 64 → (get_or w 0 0 ≡ 48 → length w ≤ 1) → w ≡ decimal n
+is_number w n v d some small first =
+    let all : take (length w) w ≡ w = take_all (length w) w (omega arith) in
+    let v' : n ≡ digits_value 10 w = v ∙ ap (digits_value 10) all in
+    sym (ap decimal v' ∙ decimal-digits_value own w (subst (AllDigits 10) all d) some (λ f. omega (arith, first f, some)) (omega arith))
 
 -- the next piece of s has no word that a script may have
 pub no_word : (s w : List ℕ) (i : ℕ) → (i < length (pieces s)) × (w ≡ get_or (pieces s) i w) → ((t : Token) → Readable t → w ≡ spelt t → ⊥) → (ts : List Token) → Shaped ts → s ≡ spell ts → ⊥

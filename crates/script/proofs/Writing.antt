@@ -1,10 +1,15 @@
 -- What is written in parts. Assumes nothing.
-use Rattle.std.proofs.Common.{◌≡◌, ℕ, List, ◌++◌, length, take, Result, Ok, Err, IsErr, sym, refl, ap, ◌∙◌, subst, append_assoc, arith, length-append}
+use Rattle.std.proofs.Common.{◌≡◌, ℕ, ◌+◌, ◌<◌, List, [], ◌∷◌, ◌++◌, length, get_or, set, take, Result, Ok, Err, IsErr, sym, refl, ap, ◌∙◌, subst, append_assoc, arith, length-append}
 use Rattle.std.proofs.lemmas.Bool.{false≢true}
-use Rattle.std.proofs.lemmas.List.{take-take, take_at}
+use Rattle.std.proofs.lemmas.List.{take_more, take_more_set, take-take, take_at}
 use Rattle.script.specs.declared.page.Full.{Full}
 use Rattle.script.specs.declared.page.Page.{Page}
 use Rattle.script.specs.Pages.{size, written, Partly, Wrote}
+
+-- one byte more
+pub byte_more : (buf bs old : List ℕ) (len i b : ℕ) → take len buf ≡ old ++ take i bs → len < length buf → i < length bs → b ≡ get_or bs i 0 → take (len + 1) (set buf len b) ≡ old ++ take (i + 1) bs
+byte_more buf bs old len i b h inside more is =
+    take_more_set buf len b inside ∙ ap (λ l. l ++ b ∷ []) h ∙ append_assoc old (take i bs) (b ∷ []) ∙ ap (λ c. old ++ (take i bs ++ c ∷ [])) is ∙ ap (λ l. old ++ l) (sym (take_more bs i 0 more))
 
 -- what has no room, has none with more behind it
 pub fails_first : {room : ℕ} {old xs new : List ℕ} → Partly room old xs new → (ys : List ℕ) → Partly room old (xs ++ ys) new

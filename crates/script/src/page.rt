@@ -47,9 +47,11 @@ impl<'a> Page<'a> {
         if bytes.len() > self.buf.len() - self.len {
             return Err(Full);
         }
-        let end = self.len + bytes.len();
-        self.buf[self.len..end].copy_from_slice(bytes);
-        self.len = end;
+        // one by one: for `copy_from_slice` the library for C would need `memmove` from outside
+        for byte in bytes {
+            self.buf[self.len] = *byte;
+            self.len += 1;
+        }
         Ok(())
     }
 

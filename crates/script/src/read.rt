@@ -6,8 +6,6 @@ ghost use Rattle.script.specs.Cuts.{keyword_of, Readable, Shaped};
 ghost use Rattle.script.specs.Scripts.{LineAt};
 
 use super::words::{Keyword, Token, Words};
-use itoa::Buffer;
-use std::str;
 
 // The first line, and how many bytes it takes with its newline.
 pub fn first_line(text: &[u8]) -> (&[u8], usize)
@@ -21,15 +19,22 @@ pub fn first_line(text: &[u8]) -> (&[u8], usize)
 }
 
 // The number that is written so: of digits alone, and with no needless noughts in front.
+// (Not by `parse`, which wants text and lets a plus and needless noughts stand in front.)
 fn number(word: &[u8]) -> Option<u64>
     ensures { MatchOption result ((n : ℕ) → n < 2 ^ 64 → word.now ≢ decimal n) (λ n. word.now ≡ decimal n) }
 {
-    let n: u64 = str::from_utf8(word).ok()?.parse().ok()?;
-    if Buffer::new().format(n).as_bytes() == word {
-        Some(n)
-    } else {
-        None
+    let first = *word.first()?;
+    if first == b'0' && word.len() > 1 {
+        return None;
     }
+    let mut n: u64 = 0;
+    for byte in word {
+        if !byte.is_ascii_digit() {
+            return None;
+        }
+        n = n.checked_mul(10)?.checked_add((*byte - b'0').into())?;
+    }
+    Some(n)
 }
 
 fn keyword_of(word: &[u8]) -> Option<Keyword>

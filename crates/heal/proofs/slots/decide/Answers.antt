@@ -1,7 +1,13 @@
-use Rattle.std.proofs.Common.{refl, arith}
+use Rattle.std.proofs.Common.{ℕ, not, T, List, Err, refl, inl, inr, arith}
+use Rattle.heal.specs.declared.Call.{Call}
+use Rattle.heal.specs.declared.decision.Refusal.TheVariants.{NotBuilt}
+use Rattle.heal.specs.declared.decision.NotDone.TheVariants.{Refused}
+use Rattle.heal.specs.Kernel.{Kern, Event}
+use Rattle.heal.specs.Promise.{can}
 use Rattle.heal.specs.Journal.{viewed}
-use Rattle.heal.proofs.Steps.{after_none, did_ok}
-use Rattle.heal.proofs.Ending.{decided_as}
+use Rattle.heal.specs.Deciding.{AtSweep, Decides}
+use Rattle.heal.proofs.Steps.{after_none}
+use Rattle.heal.proofs.Ending.{decided_as, refused}
 use Rattle.heal.proofs.Deciders.{not_built_lem}
 use Rattle.heal.proofs.Serving.{is_not_built}
 use Rattle.heal.proofs.slots.decide.Goals as goal
@@ -30,7 +36,17 @@ returns-in-Say g c = decided_as _ c.say.ensures c.in-Say.is (omega arith)
 pub returns-in-Hear : goal.returns-in-Hear
 returns-in-Hear g c = decided_as _ c.hear.ensures c.in-Hear.is (omega arith)
 
+unbuilt : {p : ℕ} {c : Call} {k : Kern} {es : List Event} → AtSweep 10 p c k es → T (not (can c)) → Decides 10 p c k es (Err (Refused NotBuilt)) k es
+unbuilt {p = p} {c = c} {k = k} {es = es} r b = refused p c NotBuilt (after_none r.able) refl (r.stand, not_built_lem p c (viewed k) es r.stand b) (omega arith)
+
 pub returns-in-Spawn : goal.returns-in-Spawn
-returns-in-Spawn g c =
-    let z = c.requires.stand in
-    did_ok (after_none c.requires.able) ((z, not_built_lem c.args.p c.args.call (viewed (g.K.Desk.kern c.args.k.now)) _ z (is_not_built c.args.call c.in-Spawn.is)), refl) (omega arith)
+returns-in-Spawn g c = unbuilt c.requires (is_not_built c.args.call (inl (_, c.in-Spawn.is)))
+
+pub returns-in-Exit : goal.returns-in-Exit
+returns-in-Exit g c = unbuilt c.requires (is_not_built c.args.call (inr (inl (_, c.in-Exit.is))))
+
+pub returns-in-Wait : goal.returns-in-Wait
+returns-in-Wait g c = unbuilt c.requires (is_not_built c.args.call (inr (inr (inl c.in-Wait.is))))
+
+pub returns-in-Kill : goal.returns-in-Kill
+returns-in-Kill g c = unbuilt c.requires (is_not_built c.args.call (inr (inr (inr (_, c.in-Kill.is)))))
